@@ -1,0 +1,4 @@
+pub mod View
+pub mod Asking
+pub mod Entering
+pub mod Answering

@@ -1,0 +1,51 @@
+// Which lines a change is about.
+#[derive(Clone, Copy, PartialEq, Eq, Debug)]
+pub enum Side {
+    Rows,
+    Columns,
+}
+
+// Which change an entry is of, and its numbers.
+#[derive(Clone, Copy, PartialEq, Eq, Debug)]
+pub enum Note {
+    Insertion { side: Side, at: u32, count: u32 },
+    Removal { side: Side, at: u32, count: u32 },
+}
+
+// Removed lines that stood side by side.
+#[derive(Clone, Copy, PartialEq, Eq, Debug)]
+pub struct Run {
+    pub offset: u32,
+    pub length: u32,
+}
+
+// What one change did (at the mill: a slip): the change, the shape before it, and how many runs and saved
+// cells (at the mill: kept cells) are its own.
+#[derive(Clone, Copy, PartialEq, Eq, Debug)]
+pub struct Entry {
+    pub note: Note,
+    pub rows: u32,
+    pub columns: u32,
+    pub runs: usize,
+    pub cells: usize,
+}
+
+// How much of each journal buffer is in use.
+#[derive(Clone, Copy, PartialEq, Eq, Debug)]
+pub struct Tops {
+    pub entries: usize,
+    pub runs: usize,
+    pub saved: usize,
+}
+
+// The four handed-in buffers of a sheet, its shape, and how much of the journal is in use.
+#[derive(Drop)]
+pub struct Parts<'a, T> {
+    pub cells: &'a mut [T],
+    pub entries: &'a mut [Entry],
+    pub runs: &'a mut [Run],
+    pub saved: &'a mut [T],
+    pub rows: u32,
+    pub columns: u32,
+    pub tops: Tops,
+}

@@ -1,0 +1,4 @@
+pub mod Refusals
+pub mod Lawful
+pub mod Checks
+pub mod Dense

@@ -1,0 +1,10 @@
+pub mod Grids
+pub mod Edits
+pub mod Undo
+pub mod Replays
+pub mod Laid
+pub mod Reaching
+pub mod Lines
+pub mod Joins
+pub mod Regions
+pub mod Counting
