@@ -10,7 +10,7 @@ use Rattle.std.proofs.shelf.Tests.{cond-true, lt-ltb}
 use Rattle.journal.specs.declared.parts.Run.{Run}
 use Rattle.journal.specs.declared.parts.Entry.{Entry}
 use Rattle.journal.specs.View.{entryOf, runOf}
-use Rattle.journal.specs.Entering.{oneRun}
+use Rattle.model.specs.Journal.{oneRun}
 
 pub one-run : (i n : ℕ) → 0 < n → oneRun i n ≡ (i, n) ∷ []
 one-run i n h = cond-true (ltb 0 n) ((i, n) ∷ []) [] (lt-ltb 0 n h)

@@ -1,19 +1,13 @@
 -- How a change is entered in the journal.
 use mathlib.Core.Path.{_≡_}
-use mathlib.Core.List.{List, [], _∷_, _++_, map}
-use mathlib.Core.Bool.{cond}
+use mathlib.Core.List.{_++_, map}
 use Prim.Native.Nat.{ℕ, _+_}
 use lib.ListN.{length, take, set}
-use lib.Dec.{ltb}
 use Rattle.journal.specs.declared.parts.Note.{Note}
 use Rattle.journal.specs.declared.parts.Entry.{Entry}
 use Rattle.journal.specs.declared.parts.Parts.{Parts}
-use Rattle.journal.specs.declared.parts.Tops.{Tops}
 use Rattle.journal.specs.View.{runOf}
-
--- the run of n lines at i, or none where no line goes
-abbrev pub oneRun : ℕ → ℕ → List (ℕ × ℕ)
-oneRun i n = cond (ltb 0 n) ((i, n) ∷ []) []
+use Rattle.model.specs.Journal.{oneRun}
 
 -- the run stands behind the runs in use, and nothing else has altered
 pub record RunNoted {A : Type 0} (p q : Parts A) (i n own : ℕ) : Type 0 where

@@ -1,10 +1,19 @@
+ghost use mathlib.Core.Path.{_≡_};
 ghost use Prim.Native.Nat.{_+_, _<_, _≤_};
 ghost use lib.ListN.{length};
-ghost use Rattle.journal.specs.Entering.{Entered, RunNoted, oneRun};
+ghost use Rattle.journal.specs.Entering.{Entered, RunNoted};
+ghost use Rattle.model.specs.Journal.{oneRun};
 use super::parts::Entry;
 use super::parts::Note;
 use super::parts::Parts;
 use super::parts::Run;
+
+// How many runs the n lines at i are.
+pub fn run_count(i: u32, n: u32) -> usize
+    ensures { λ r. ⌜ r ≡ length (oneRun i n) ⌝ }
+{
+    if n == 0 { 0 } else { 1 }
+}
 
 // Writes the run of n lines at i behind the runs in use, or nothing where no line goes; says how many runs it is.
 pub fn note_run<T>(p: &mut Parts<'_, T>, i: u32, n: u32) -> usize

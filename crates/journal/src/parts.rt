@@ -31,7 +31,7 @@ pub struct Entry {
 }
 
 // How much of each journal buffer is in use.
-#[derive(Clone, Copy, PartialEq, Eq, Debug)]
+#[derive(Clone, Copy)]
 pub struct Tops {
     pub entries: usize,
     pub runs: usize,

@@ -11,8 +11,8 @@ use Rattle.std.specs.Joined.{joined}
 use Rattle.std.specs.shelf.Lists.{kept-by}
 use Rattle.std.proofs.shelf.Tests.{and-from, le-leb}
 use Rattle.model.specs.Sheet.{within, row, column, Change, insertLines, removeLines, Table, cellAt, pairs, rowsOf, columnsOf}
-use Rattle.model.specs.Journal.{Right, survives, runsOf, lostOf, namedIn, hasColumn}
-use Rattle.model.proofs.Lines.{keep-length, keep-stays, insert-length, insert-stays, remove-length, others-stays, gone-are, run-is, oneRun}
+use Rattle.model.specs.Journal.{Right, survives, oneRun, runsOf, lostOf, namedIn, hasColumn}
+use Rattle.model.proofs.Lines.{keep-length, keep-stays, insert-length, insert-stays, remove-length, others-stays, gone-are, run-is}
 use Rattle.model.proofs.Regions.{region, region-right, lost-rows, lost-columns}
 
 pub record Counts {A : Type 0} (t : Table A) (ch : Change A) (m n : ℕ) (rs : List (ℕ × ℕ)) (l : ℕ) : Type 0 where

@@ -8,13 +8,13 @@ use lib.ListN.{length, getD, take, drop, length-take}
 use Rattle.std.specs.Iters.{counting}
 use Rattle.std.specs.Joined.{joined}
 use Rattle.std.specs.shelf.Lists.{All, kept-by}
-use Rattle.std.proofs.shelf.Lists.{take-take, drop-take, drop-more, length-take-le, length-drop}
+use Rattle.std.proofs.shelf.Lists.{take-take, drop-take, drop-more, length-take-le, same-lists, getD-take}
 use Rattle.std.proofs.shelf.Counted.{length-counting, getD-counting}
 use Rattle.std.proofs.shelf.Bits.{mul-add-lt}
 use Rattle.std.proofs.shelf.Tests.{and-from, and-left, and-right}
 use Rattle.model.specs.Sheet.{Origin, old, new, Change, Table, cellAt, cellOf, pairs, rowsOf, columnsOf, changed}
 use Rattle.model.specs.Journal.{Right, places, survives, stays, lostOf, namedIn}
-use Rattle.model.proofs.Grids.{Single, Singles, one-column, length-grid, grid-at, table-back, single-cell, all-counting, all-places}
+use Rattle.model.proofs.Grids.{table-back, all-places, take-then}
 use Rattle.model.proofs.Undo.{right-changed, changed-at}
 
 -- one cell of a buffer
@@ -111,3 +111,16 @@ former-cell t ch M N ys right there em en lies r c k l hr hc er ec =
     ∙ sym (cell-of (changed t ch) ys (sym lies ∙ ap (λ z. take z ys) (ap₂ _*_ (sym em) (sym en))) r c (omega (arith, em)) (omega (arith, en)))
     ∙ changed-at t ch right there r c (new 0) (new 0) (omega (arith, em)) (omega (arith, en))
     ∙ ap₂ (cellOf t ch) er ec
+
+-- cells written behind the first `top`
+pub put-behind :
+    {A : Type 0} (was is : List A) (top n : ℕ) (lost : List A) → length is ≡ length was → top + n ≤ length was
+    → ((k : ℕ) (d : A) → k < top → getD is k d ≡ getD was k d) → take n (drop top is) ≡ lost
+    → take (top + n) is ≡ take top was ++ lost
+put-behind was is top n lost long room below back =
+    let l1 = length-take-le top is (omega arith) in
+    let l2 = length-take-le top was (omega arith) in
+    sym (take-then top n is)
+    ∙ ap₂ _++_
+    (same-lists (take top is) (take top was) (l1 ∙ sym l2) (λ k d b. getD-take top is k d (omega arith) ∙ below k d (omega arith) ∙ sym (getD-take top was k d (omega arith))))
+    back

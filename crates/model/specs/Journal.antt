@@ -40,6 +40,10 @@ abbrev pub runsFrom : (ℕ → Bool) → ℕ → ℕ → List (ℕ × ℕ)
 runsFrom p a ℕ.zero = []
 runsFrom p a (suc n) = cond (p a) (begun a (runsFrom p (a + 1) n)) (runsFrom p (a + 1) n)
 
+-- the run of n lines at i, or none where no line goes
+abbrev pub oneRun : ℕ → ℕ → List (ℕ × ℕ)
+oneRun i n = cond (ltb 0 n) ((i, n) ∷ []) []
+
 abbrev pub linesOf : List (ℕ × ℕ) → List ℕ
 linesOf rs = joined (λ r. counting (r .0) (r .1)) rs
 

@@ -2,7 +2,7 @@ use native.Mathlib.Omega.{arith}
 use mathlib.Core.Path.{_≡_, refl, sym, ap}
 use Prim.Native.Nat.{_<_}
 use lib.ListN.{length, length-set}
-use Rattle.journal.specs.Entering.{oneRun}
+use Rattle.model.specs.Journal.{oneRun}
 use Rattle.journal.proofs.Entries.{one-run, run-more}
 use Rattle.journal.proofs.entering.note_run.Needs as need
 

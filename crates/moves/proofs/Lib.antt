@@ -1,0 +1,5 @@
+pub mod Places
+pub mod Slides
+pub mod Rows
+pub mod Saves
+pub mod Columns
