@@ -1,6 +1,8 @@
 // A layout: a shape, a span, and a place below the span for each cell of the shape.
 ghost use mathlib.Core.Path.{_≡_};
-ghost use Prim.Native.Nat.{_<_, _≤_};
+ghost use Prim.Native.Nat.{_+_, _*_, _<_, _≤_};
+ghost use lib.ListN.{length};
+ghost use Rattle.layout.specs.Cells.{Cloned, ColumnCloned};
 ghost use Rattle.layout.specs.Lawful.{Grid, Lawful};
 
 pub trait Layout {
@@ -22,4 +24,28 @@ pub trait Layout {
         ensures inside { λ r. ⌜ (row < grid (now (self .entry)) .rows → column < grid (now (self .entry)) .columns → r ≡ grid (now (self .entry)) .place row column) ⌝ }
         ensures below { λ r. ⌜ (grid (now (self .entry)) .rows ≤ row → r ≡ grid (now (self .entry)) .span) ⌝ }
         ensures beside { λ r. ⌜ (grid (now (self .entry)) .columns ≤ column → r ≡ grid (now (self .entry)) .span) ⌝ };
+}
+
+// Copies one column of a layout's table to its place in a dense one.
+fn clone_column<L: Layout, T: Copy>(layout: &L, source: &[T], cells: &mut [T], rows: u32, column: u32)
+    requires shape { ⌜ (rows ≡ grid (now layout) .rows) × (column < grid (now layout) .columns) ⌝ }
+    requires fits { ⌜ (grid (now layout) .span ≤ length (now source)) × (column * rows + rows ≤ length (now cells)) ⌝ }
+    ensures { λ _. ⌜ ColumnCloned (grid (now (layout .entry))) (now (source .entry)) (now (cells .entry)) (now (cells .exit)) column rows ⌝ }
+{
+    let first = column as usize * rows as usize;
+    for r in 0..rows {
+        let place = layout.place(r, column) as usize;
+        cells[first + r as usize] = source[place];
+    }
+}
+
+// Copies a layout's table, column by column, to the start of a buffer.
+pub fn clone_owned<L: Layout, T: Copy>(layout: &L, source: &[T], cells: &mut [T])
+    requires { ⌜ (grid (now layout) .span ≤ length (now source)) × (grid (now layout) .rows * grid (now layout) .columns ≤ length (now cells)) ⌝ }
+    ensures { λ _. ⌜ Cloned (grid (now (layout .entry))) (now (source .entry)) (now (cells .entry)) (now (cells .exit)) (grid (now (layout .entry)) .columns) ⌝ }
+{
+    let (rows, columns) = layout.shape();
+    for c in 0..columns {
+        clone_column(layout, source, cells, rows, c);
+    }
 }

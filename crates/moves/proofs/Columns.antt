@@ -1,14 +1,13 @@
 -- Blocks of columns taken out of a table and put into it.
 use mathlib.Core.Path.{_≡_, _∙_}
 use mathlib.Core.List.{List}
-use Prim.Native.Nat.{ℕ, _+_, _-_, _*_, _<_, _≤_}
+use Prim.Native.Nat.{ℕ, _+_, _-_, _*_, _≤_}
 use native.Mathlib.Nat.{mul-comm}
 use native.Mathlib.Omega.{arith}
-use lib.ListN.{length, getD}
 use Rattle.moves.specs.Slides.{Slid, Filled}
 use Rattle.moves.specs.Tables.{ColumnsInserted}
 use Rattle.moves.proofs.Slides.{at}
-use Rattle.moves.proofs.Places.{columns-sum, columns-split, columns-le, columns-lt, place-below}
+use Rattle.moves.proofs.Places.{columns-sum, columns-split, columns-lt, place-below}
 
 -- where n columns at i lie, and what is behind them
 pub remove-room : (rows columns i n : ℕ) → i + n ≤ columns → ((i + n) * rows ≡ i * rows + n * rows) × ((i + n) * rows + (columns - (i + n)) * rows ≡ rows * columns) × (n * rows ≡ rows * n)

@@ -8,7 +8,7 @@ use native.Mathlib.Omega.{arith}
 use lib.ListN.{length, getD}
 use Rattle.std.proofs.shelf.Tests.{cases-lt}
 use Rattle.moves.specs.Slides.{Copied, Filled}
-use Rattle.moves.specs.Tables.{Saved, Put}
+use Rattle.moves.specs.Tables.{Saved}
 use Rattle.moves.proofs.Slides.{at}
 use Rattle.moves.proofs.Places.{next-column, columns-same, columns-le, columns-lt}
 

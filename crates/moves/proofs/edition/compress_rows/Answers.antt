@@ -1,6 +1,6 @@
 use native.Mathlib.Omega.{arith}
 use native.Mathlib.Nat.{zero-mul}
-use Prim.Native.Nat.{_+_, _-_, _*_, _≤_}
+use Prim.Native.Nat.{_+_, _-_, _≤_}
 use lib.ListN.{length}
 use Rattle.moves.proofs.Places.{next-column}
 use Rattle.moves.proofs.Rows.{compressing-none, compressing-more, compress-room, compress-back, compress-end, compressed-all}

@@ -1,6 +1,6 @@
 use native.Mathlib.Omega.{arith}
 use native.Mathlib.Nat.{mul-comm}
-use Prim.Native.Nat.{_+_, _-_, _*_}
+use Prim.Native.Nat.{_+_, _-_}
 use Rattle.moves.proofs.Rows.{extend-room, extended-by}
 use Rattle.moves.proofs.edition.extend_rows.Needs as need
 
