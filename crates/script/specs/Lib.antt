@@ -1,0 +1,6 @@
+pub mod Words
+pub mod Numerals
+pub mod Tokens
+pub mod Verbs
+pub mod Commands
+pub mod Answers

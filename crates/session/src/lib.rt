@@ -1,0 +1,3 @@
+// Carries out a script on a sheet of weights.
+pub mod obey;
+pub mod state;
