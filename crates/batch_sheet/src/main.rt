@@ -21,12 +21,29 @@ const INPUT: usize = 65536;
 
 // The stores of the script's sheet.
 const CELLS: usize = 4096;
+
 const ENTRIES: usize = 64;
+
 const RUNS: usize = 256;
+
 const SAVED: usize = 4096;
 
-const NO_ENTRY: Entry = Entry { note: Note::Removal { side: Side::Rows, at: 0, count: 0 }, rows: 0, columns: 0, runs: 0, cells: 0 };
-const NO_RUN: Run = Run { offset: 0, length: 0 };
+const NO_ENTRY: Entry = Entry {
+    note: Note::Removal {
+        side: Side::Rows,
+        at: 0,
+        count: 0,
+    },
+    rows: 0,
+    columns: 0,
+    runs: 0,
+    cells: 0,
+};
+
+const NO_RUN: Run = Run {
+    offset: 0,
+    length: 0,
+};
 
 // Reads up to the end of the input or of the page, and says how much was read.
 fn fill<R: Read>(input: &mut R, page: &mut [u8]) -> io::Result<usize>
@@ -44,7 +61,11 @@ fn fill<R: Read>(input: &mut R, page: &mut [u8]) -> io::Result<usize>
 }
 
 // Obeys the lines one after another. The text is printed whenever much of it has come together.
-fn obey_all(rt: &LibcRuntime, session: &mut Session<'_, '_>, script: &[u8]) -> Result<(), AnyError> {
+fn obey_all(
+    rt: &LibcRuntime,
+    session: &mut Session<'_, '_>,
+    script: &[u8],
+) -> Result<(), AnyError> {
     let mut out = Vec::new(rt.alloc());
     let mut rest = script;
     let mut number: usize = 1;
@@ -69,7 +90,14 @@ fn run(rt: &LibcRuntime) -> Result<(), AnyError> {
     let mut entries = [NO_ENTRY; ENTRIES];
     let mut runs = [NO_RUN; RUNS];
     let mut saved = [0; SAVED];
-    let mut sheet = Sheet::open(&Dense::make(0, 0), &[], &mut cells, &mut entries, &mut runs, &mut saved);
+    let mut sheet = Sheet::open(
+        &Dense::make(0, 0),
+        &[],
+        &mut cells,
+        &mut entries,
+        &mut runs,
+        &mut saved,
+    );
     let mut session = Session::new(&mut sheet);
     obey_all(rt, &mut session, &page[0..read])
 }

@@ -27,7 +27,13 @@ pub trait Layout {
 }
 
 // Copies one column of a layout's table to its place in a dense one.
-fn clone_column<L: Layout, T: Copy>(layout: &L, source: &[T], cells: &mut [T], rows: u32, column: u32)
+fn clone_column<L: Layout, T: Copy>(
+    layout: &L,
+    source: &[T],
+    cells: &mut [T],
+    rows: u32,
+    column: u32,
+)
     requires shape { ⌜ (rows ≡ grid (now layout) .rows) × (column < grid (now layout) .columns) ⌝ }
     requires fits { ⌜ (grid (now layout) .span ≤ length (now source)) × (column * rows + rows ≤ length (now cells)) ⌝ }
     ensures { λ _. ⌜ ColumnCloned (grid (now (layout .entry))) (now (source .entry)) (now (cells .entry)) (now (cells .exit)) column rows ⌝ }

@@ -43,13 +43,58 @@ fn cut_rows<T: Copy>(p: &mut Parts<'_, T>, i: u32, n: u32)
     requires fits { ⌜ Fits (now p) (now p .rows - n) (now p .columns) (length (oneRun i n)) (n * now p .columns) ⌝ }
     ensures { λ _. ⌜ Performed (now (p .entry)) (now (p .exit)) (removeLines row i n) (now (p .entry) .rows - n) (now (p .entry) .columns) (oneRun i n) (n * now (p .entry) .columns) ⌝ }
 {
-    let none = Parts { cells: &mut [], entries: &mut [], runs: &mut [], saved: &mut [], rows: 0, columns: 0, tops: Tops { entries: 0, runs: 0, saved: 0 } };
+    let none = Parts {
+        cells: &mut [],
+        entries: &mut [],
+        runs: &mut [],
+        saved: &mut [],
+        rows: 0,
+        columns: 0,
+        tops: Tops {
+            entries: 0,
+            runs: 0,
+            saved: 0,
+        },
+    };
     let q = std::mem::replace(p, none);
-    let Parts { cells, entries, runs, saved, rows, columns, tops } = q;
-    moves::edition::remove_rows(cells, rows as usize, columns as usize, i as usize, n as usize, saved, tops.saved);
-    *p = Parts { cells, entries, runs, saved, rows, columns, tops };
+    let Parts {
+        cells,
+        entries,
+        runs,
+        saved,
+        rows,
+        columns,
+        tops,
+    } = q;
+    moves::edition::remove_rows(
+        cells,
+        rows as usize,
+        columns as usize,
+        i as usize,
+        n as usize,
+        saved,
+        tops.saved,
+    );
+    *p = Parts {
+        cells,
+        entries,
+        runs,
+        saved,
+        rows,
+        columns,
+        tops,
+    };
     let own = note_run(p, i, n);
-    enter(p, Note::Removal { side: Side::Rows, at: i, count: n }, own, n as usize * columns as usize);
+    enter(
+        p,
+        Note::Removal {
+            side: Side::Rows,
+            at: i,
+            count: n,
+        },
+        own,
+        n as usize * columns as usize,
+    );
     p.rows -= n;
 }
 
@@ -80,6 +125,15 @@ fn put_rows<T: Copy>(p: &mut Parts<'_, T>, i: u32, n: u32, v: T)
     let rows = p.rows as usize;
     let columns = p.columns as usize;
     moves::edition::insert_rows(p.cells, rows, columns, i as usize, n as usize, v);
-    enter(p, Note::Insertion { side: Side::Rows, at: i, count: n }, 0, 0);
+    enter(
+        p,
+        Note::Insertion {
+            side: Side::Rows,
+            at: i,
+            count: n,
+        },
+        0,
+        0,
+    );
     p.rows += n;
 }

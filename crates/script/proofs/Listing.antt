@@ -9,7 +9,7 @@ use lib.ListN.{length, getD, take, drop, set, replicate}
 use Rattle.std.specs.declared.option.Option.{Option}
 use Rattle.std.specs.declared.option.Option.the-variants.{Some, None}
 use Rattle.std.specs.declared.result.Result.{Result}
-use Rattle.std.specs.declared.result.Result.the-variants.{Ok, Err}
+use Rattle.std.specs.declared.result.Result.the-variants.{Err}
 use Rattle.std.proofs.shelf.Lists.{drop-more, drop-all, length-take-le, length-set, take-more-set, set-at, take-rest}
 use Rattle.std.proofs.shelf.Tests.{eq-eqb, ne-eqb}
 use Rattle.std.specs.Options.{valueOr}
@@ -19,7 +19,7 @@ use Rattle.script.specs.declared.command.Fault.{Fault}
 use Rattle.script.specs.Numerals.{numeral}
 use Rattle.script.specs.Tokens.{Part, command, number, remark, partValue, firstPart, afterFirst, nextPart}
 use Rattle.script.specs.Words.{front, behind, withFirst, parts, partsOf, further}
-use Rattle.script.specs.Commands.{packed, readOn, fault}
+use Rattle.script.specs.Commands.{readOn, fault}
 
 -- the parts of a text are what stands before the first c and the parts behind it
 pub parts-at : (c : ℕ) (bs : List ℕ) → parts c bs ≡ front c bs ∷ partsOf c (behind c bs)

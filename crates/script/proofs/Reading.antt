@@ -12,7 +12,7 @@ use Rattle.std.specs.shelf.Text.{allDigits}
 use Rattle.std.proofs.shelf.Digits.{value-more, digits-more}
 use Rattle.std.proofs.shelf.Numerals.{Numerals, numerals-by-value, tells-digits, tells-allDigits, value-short, digit-at}
 use Rattle.std.proofs.shelf.Lists.{take-all}
-use Rattle.std.proofs.shelf.Tests.{and-from, and-left, and-right, le-leb, lt-leb, cases-bool, cond-true, cond-false, cases-lt}
+use Rattle.std.proofs.shelf.Tests.{and-from, le-leb, cases-bool, cond-true, cases-lt}
 use Rattle.std.specs.Numbers.{Converted}
 use Rattle.std.specs.Results.{okPart}
 use Rattle.std.specs.declared.result.Result.{Result}

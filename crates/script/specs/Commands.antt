@@ -50,7 +50,7 @@ most Print = 0
 abbrev pub takes : Verb → ℕ → Bool
 takes v k = leb (fewest v) k && leb k (most v)
 
--- the commands that are carried out
+-- the commands that are carried out; another is answered as a word that names none
 abbrev pub lives : Verb → Bool
 lives (Insert s) = true
 lives (Remove s) = true
@@ -95,7 +95,7 @@ abbrev pub withVerb : Option Verb → List (List ℕ) → Result Command Fault
 withVerb None ws = Err (fault NoCommand 1)
 withVerb (Some v) ws = cond (lives v) (commandRead v ws) (Err (fault NoCommand 1))
 
--- a line of so many bytes, by its first token and its further words
+-- a line of so many bytes, by its first token, which is never a number, and its further words
 abbrev pub byPart : ℕ → Part → List (List ℕ) → Result Command Fault
 byPart long (remark bs) ws = Ok to.Remark
 byPart long (number w) ws = Err (fault NoCommand 1)

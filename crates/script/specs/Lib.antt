@@ -3,4 +3,3 @@ pub mod Numerals
 pub mod Tokens
 pub mod Verbs
 pub mod Commands
-pub mod Answers

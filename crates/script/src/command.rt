@@ -17,6 +17,7 @@ use layout::refusal::Refusal;
 use layout::refusal::RefusalDebug;
 use layout::refusal::RefusalPartialEq;
 
+// What a command works on.
 #[derive(Clone, Copy, Debug, PartialEq, Eq)]
 pub enum Side {
     Rows,
@@ -37,7 +38,7 @@ pub enum Verb {
     Print,
 }
 
-// Up to 16 numbers, before zeros.
+// Up to 16 numbers, before zeros. They lie in place, so that a command needs no memory of its own.
 #[derive(Clone, Copy, Debug, PartialEq, Eq)]
 pub struct Numbers {
     pub at: [u32; 16],
@@ -45,7 +46,7 @@ pub struct Numbers {
 }
 
 impl Numbers {
-    // The numbers without the zeros behind them.
+    // The numbers without the zeros behind them. A count above 16 is taken as 16.
     pub fn as_slice(&self) -> &[u32]
         ensures { λ r. ⌜ now r ≡ take (min (now (self .entry) .count) 16) (now (self .entry) .at) ⌝ }
     {
@@ -53,6 +54,7 @@ impl Numbers {
     }
 }
 
+// A command with its numbers.
 #[derive(Clone, Copy, Debug, PartialEq, Eq)]
 pub enum Command {
     Insert {
@@ -140,7 +142,7 @@ pub fn verb_of(word: &[u8]) -> Option<Verb>
     }
 }
 
-// Whether a command is carried out yet. One that is not is answered as a word that names no command.
+// Whether a command is carried out yet. One that is not is answered as a word that names none.
 pub fn lives(verb: Verb) -> bool
     ensures { λ r. ⌜ r ≡ lives verb ⌝ }
 {
@@ -262,7 +264,8 @@ pub fn read_command(verb: Verb, words: Option<&[u8]>) -> Result<Command, Fault>
     Ok(command_of(verb, &n))
 }
 
-// What a line asks for.
+// What a line asks for, or the first question that it answers with no: is it short enough, does its first word name a
+// command, has it the right count of words, and is each a number? A remark is asked nothing.
 pub fn decide(line: &[u8]) -> Result<Command, Fault>
     ensures { λ r. ⌜ r ≡ decided (now (line .entry)) ⌝ }
 {

@@ -1,10 +1,11 @@
-// Takes a line apart into tokens, which borrow it.
+// Takes a line apart into tokens.
 ghost use mathlib.Core.Path.{_≡_};
 ghost use Rattle.std.specs.Options.{mapped};
 ghost use Rattle.script.specs.Tokens.{partOf, firstPart, afterFirst, seen, nextPart, partValue};
 use crate::number::number;
 use crate::words::cut;
 
+// A part of a line, which it borrows.
 #[derive(Clone, Copy, Debug)]
 pub enum Token<'l> {
     Command(&'l [u8]),
@@ -38,7 +39,8 @@ pub fn first_token(line: &[u8]) -> (Token<'_>, Option<&[u8]>)
     }
 }
 
-// The number token at the front of the further words, and the words behind it. Text that is there, even if it is empty, has a word.
+// The first of the words behind a command, as a number token, and the words behind that. An empty text is still a word:
+// it stands behind a blank.
 pub fn next_token(words: Option<&[u8]>) -> Option<(Token<'_>, Option<&[u8]>)>
     ensures { λ r. ⌜ mapped seen r ≡ nextPart (mapped now (words .entry)) ⌝ }
 {

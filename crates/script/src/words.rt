@@ -1,4 +1,7 @@
-// Cuts a script into lines and words. Both borrow the script.
+// Cuts a script into lines and words, which borrow it.
+//
+// A line ends in a line feed, and a last line that is not empty counts without one. Words are parted by single blanks,
+// so a second blank in a row, or one at the end, makes an empty word.
 ghost use mathlib.Core.Path.{_≡_};
 ghost use mathlib.Core.List.{[], _∷_};
 ghost use Prim.Native.Nat.{_<_};
@@ -19,7 +22,7 @@ pub fn cut(text: &[u8], at: u8) -> (&[u8], Option<&[u8]>)
     (text, None)
 }
 
-// The first line of a text and what is left behind it. A last line may lack its line feed, and nothing is left then.
+// The first line of a text and what is left behind it. Nothing is left behind a line that lacks its line feed.
 pub fn next_line(text: &[u8]) -> (&[u8], &[u8])
     ensures line { λ r. ⌜ now (r .0) ≡ front 10 (now (text .entry)) ⌝ }
     ensures rest { λ r. ⌜ now (r .1) ≡ valueOr (behind 10 (now (text .entry))) [] ⌝ }

@@ -60,10 +60,10 @@ new-opened s t rows columns v dr dc few er ec (Err e) ok op asked is = absurd (b
 new-opened s t rows columns v dr dc few er ec (Ok u) ok op asked is =
     let room = stateOf s .sheet .room in
     let passed : Passes (openingRules (dense rows columns) 4096 room) =
-          subst (λ z. Passes (openingRules (dense rows z) 4096 room)) ec (subst (λ z. Passes (openingRules (dense z dc) 4096 room)) er asked) in
+    subst (λ z. Passes (openingRules (dense rows z) 4096 room)) ec (subst (λ z. Passes (openingRules (dense z dc) 4096 room)) er asked) in
     let small : rows * columns ≤ 4096 = passed .1 .1 .1 .0 in
     let table : tableIn (dense dr dc) (replicate 4096 v) ≡ plain rows columns v =
-          ap₂ (λ x y. tableIn (dense x y) (replicate 4096 v)) er ec ∙ plain-table rows columns v few small in
+    ap₂ (λ x y. tableIn (dense x y) (replicate 4096 v)) er ec ∙ plain-table rows columns v few small in
     record {
       which = new-passes rows columns v few room passed;
       state = ap₂ (λ b z. record { isOpen = b; sheet = z }) op (is ∙ ap (λ z. opened z room) table);

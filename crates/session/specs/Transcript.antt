@@ -17,7 +17,7 @@ use Rattle.script.specs.declared.command.Command.the-variants.{Insert, Remove, 
 use Rattle.script.specs.declared.command.Fault.{Fault}
 use Rattle.script.specs.declared.command.Side.{Side}
 use Rattle.script.specs.declared.command.Side.the-variants.{Rows, Columns}
-use Rattle.script.specs.Answers.{doneText, noText, rowText}
+use Rattle.answers.specs.Answers.{doneText, noText, rowText}
 
 -- a sheet, and whether the script has opened it
 pub record State : Type 0 where

@@ -7,15 +7,15 @@ ghost use Rattle.script.specs.Commands.{decided};
 ghost use Rattle.session.specs.Transcript.{needsSheet, obeyed, outcome, performed, printed, unopened};
 ghost use Rattle.session.specs.Meaning.{NewAnswers, stateOf};
 use super::state::Session;
+use answers::answer::Answer;
+use answers::answer::put_answer;
+use answers::answer::put_row;
 use layout::refusal::Refusal;
 use layout::vec_storage::Dense;
 use layout::vec_storage::DenseLayout;
-use script::answer::put_answer;
-use script::answer::put_row;
-use script::answer::Answer;
-use script::command::decide;
 use script::command::Command;
 use script::command::Side;
+use script::command::decide;
 use sheet::sheet::Sheet;
 use std::alloc::AllocError;
 
@@ -43,7 +43,10 @@ impl<'s, 'a> Session<'s, 'a> {
     pub fn new(sheet: &'s mut Sheet<'a, u32>) -> Session<'s, 'a>
         ensures { λ r. ⌜ stateOf r ≡ unopened (view (now (sheet .entry) .parts)) ⌝ }
     {
-        Session { sheet, opened: false }
+        Session {
+            sheet,
+            opened: false,
+        }
     }
 
     // Opens a sheet of one value over the buffers; where that is refused the sheet that was there stays.
@@ -71,13 +74,39 @@ impl<'s, 'a> Session<'s, 'a> {
             return Err(Refusal::NoSheet);
         }
         match command {
-            Command::New { rows, columns, value } => self.open_new(rows, columns, value),
-            Command::Insert { side: Side::Rows, at, count, value } => self.sheet.insert_rows(at, count, value),
-            Command::Insert { side: Side::Columns, at, count, value } => self.sheet.insert_columns(at, count, value),
-            Command::Remove { side: Side::Rows, at, count } => self.sheet.remove_rows(at, count),
-            Command::Remove { side: Side::Columns, at, count } => self.sheet.remove_columns(at, count),
+            Command::New {
+                rows,
+                columns,
+                value,
+            } => self.open_new(rows, columns, value),
+            Command::Insert {
+                side: Side::Rows,
+                at,
+                count,
+                value,
+            } => self.sheet.insert_rows(at, count, value),
+            Command::Insert {
+                side: Side::Columns,
+                at,
+                count,
+                value,
+            } => self.sheet.insert_columns(at, count, value),
+            Command::Remove {
+                side: Side::Rows,
+                at,
+                count,
+            } => self.sheet.remove_rows(at, count),
+            Command::Remove {
+                side: Side::Columns,
+                at,
+                count,
+            } => self.sheet.remove_columns(at, count),
             Command::Print | Command::Remark => Ok(()),
-            Command::RemoveAt { .. } | Command::Swap { .. } | Command::Resize { .. } | Command::Undo | Command::Settle => Err(Refusal::NoCommand),
+            Command::RemoveAt { .. }
+            | Command::Swap { .. }
+            | Command::Resize { .. }
+            | Command::Undo
+            | Command::Settle => Err(Refusal::NoCommand),
         }
     }
 
@@ -101,11 +130,25 @@ impl<'s, 'a> Session<'s, 'a> {
     {
         let command = match decide(line) {
             Ok(command) => command,
-            Err(fault) => return put_answer(out, Answer::Refused { line: number, word: fault.word, refusal: fault.refusal }),
+            Err(fault) => return put_answer(
+                out,
+                Answer::Refused {
+                    line: number,
+                    word: fault.word,
+                    refusal: fault.refusal,
+                },
+            ),
         };
         match self.perform(command) {
             Ok(()) => self.put_outcome(command, out),
-            Err(refusal) => put_answer(out, Answer::Refused { line: number, word: 1, refusal }),
+            Err(refusal) => put_answer(
+                out,
+                Answer::Refused {
+                    line: number,
+                    word: 1,
+                    refusal,
+                },
+            ),
         }
     }
 }

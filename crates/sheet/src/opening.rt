@@ -8,8 +8,8 @@ ghost use Rattle.sheet.specs.Opening.{Filled, openingRules, room};
 use journal::parts::Parts;
 use journal::parts::Tops;
 use layout::refusal::Refusal;
-use layout::storage::clone_owned;
 use layout::storage::Layout;
+use layout::storage::clone_owned;
 
 // How many places the handed-in buffers have.
 #[derive(Clone, Copy)]
@@ -49,11 +49,19 @@ pub(crate) fn fill<L: Layout, T: Copy>(p: &mut Parts<'_, T>, layout: &L, source:
     clone_owned(layout, source, p.cells);
     p.rows = rows;
     p.columns = columns;
-    p.tops = Tops { entries: 0, runs: 0, saved: 0 };
+    p.tops = Tops {
+        entries: 0,
+        runs: 0,
+        saved: 0,
+    };
 }
 
 // Opens a table over buffers that are in use already.
-pub(crate) fn refill<L: Layout, T: Copy>(p: &mut Parts<'_, T>, layout: &L, source: &[T]) -> Result<(), Refusal>
+pub(crate) fn refill<L: Layout, T: Copy>(
+    p: &mut Parts<'_, T>,
+    layout: &L,
+    source: &[T],
+) -> Result<(), Refusal>
     ensures which { λ r. ⌜ Checked (openingRules (grid (now (layout .entry))) (length (now (source .entry))) (roomOf (now (p .entry)))) r ⌝ }
     ensures state { λ r. ⌜ Cases r (λ _. Filled (grid (now (layout .entry))) (now (source .entry)) (now (p .entry)) (now (p .exit))) (λ _. now (p .exit) ≡ now (p .entry)) ⌝ }
 {
@@ -61,7 +69,16 @@ pub(crate) fn refill<L: Layout, T: Copy>(p: &mut Parts<'_, T>, layout: &L, sourc
     let entries = p.entries.len();
     let runs = p.runs.len();
     let saved = p.saved.len();
-    let asked = ask_opening(layout, source.len(), Sizes { cells, entries, runs, saved });
+    let asked = ask_opening(
+        layout,
+        source.len(),
+        Sizes {
+            cells,
+            entries,
+            runs,
+            saved,
+        },
+    );
     if asked.is_err() {
         return asked;
     }

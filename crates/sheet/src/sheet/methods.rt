@@ -20,10 +20,22 @@ use layout::storage::Layout;
 
 impl<'a, T: Copy> Sheet<'a, T> {
     // Whether `open` would open the layout's table over these buffers: questions 1, 3, 4 and 10.
-    pub fn check<L: Layout>(layout: &L, source: &[T], cells: &[T], entries: &[Entry], runs: &[Run], saved: &[T]) -> Result<(), Refusal>
+    pub fn check<L: Layout>(
+        layout: &L,
+        source: &[T],
+        cells: &[T],
+        entries: &[Entry],
+        runs: &[Run],
+        saved: &[T],
+    ) -> Result<(), Refusal>
         ensures { λ r. ⌜ Checked (openingRules (grid (now (layout .entry))) (length (now (source .entry))) (room (length (now (cells .entry))) (length (now (entries .entry))) (length (now (runs .entry))) (length (now (saved .entry))))) r ⌝ }
     {
-        let sizes = Sizes { cells: cells.len(), entries: entries.len(), runs: runs.len(), saved: saved.len() };
+        let sizes = Sizes {
+            cells: cells.len(),
+            entries: entries.len(),
+            runs: runs.len(),
+            saved: saved.len(),
+        };
         opening::ask_opening(layout, source.len(), sizes)
     }
 
@@ -42,19 +54,50 @@ impl<'a, T: Copy> Sheet<'a, T> {
         if Sheet::check(layout, source, cells, entries, runs, saved).is_err() {
             return Sheet::empty(cells, entries, runs, saved);
         }
-        let mut parts = Parts { cells, entries, runs, saved, rows: 0, columns: 0, tops: Tops { entries: 0, runs: 0, saved: 0 } };
+        let mut parts = Parts {
+            cells,
+            entries,
+            runs,
+            saved,
+            rows: 0,
+            columns: 0,
+            tops: Tops {
+                entries: 0,
+                runs: 0,
+                saved: 0,
+            },
+        };
         opening::fill(&mut parts, layout, source);
         Sheet { parts }
     }
 
-    fn empty(cells: &'a mut [T], entries: &'a mut [Entry], runs: &'a mut [Run], saved: &'a mut [T]) -> Sheet<'a, T>
+    fn empty(
+        cells: &'a mut [T],
+        entries: &'a mut [Entry],
+        runs: &'a mut [Run],
+        saved: &'a mut [T],
+    ) -> Sheet<'a, T>
         ensures { λ r. ⌜ view (r .parts) ≡ opened noTable (room 0 0 0 0) ⌝ }
     {
         let cells = &mut cells[0..0];
         let entries = &mut entries[0..0];
         let runs = &mut runs[0..0];
         let saved = &mut saved[0..0];
-        Sheet { parts: Parts { cells, entries, runs, saved, rows: 0, columns: 0, tops: Tops { entries: 0, runs: 0, saved: 0 } } }
+        Sheet {
+            parts: Parts {
+                cells,
+                entries,
+                runs,
+                saved,
+                rows: 0,
+                columns: 0,
+                tops: Tops {
+                    entries: 0,
+                    runs: 0,
+                    saved: 0,
+                },
+            },
+        }
     }
 
     // Opens another table over the same buffers, by the same questions; a refusal leaves the sheet as it was.

@@ -5,7 +5,7 @@ use lib.ListN.{getD}
 use Rattle.std.specs.Iters.{counting}
 use Rattle.std.specs.Joined.{joined}
 use Rattle.std.specs.Of.Vec.{vec-items}
-use Rattle.script.specs.Answers.{rowText}
+use Rattle.answers.specs.Answers.{rowText}
 use Rattle.session.proofs.obey.put_table.Given as given
 
 abbrev pub Inv-loop-r : given.InvT-loop-r

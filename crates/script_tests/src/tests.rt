@@ -1,19 +1,19 @@
 // Good and bad lines.
-use crate::command::Command;
-use crate::command::CommandDebug;
-use crate::command::CommandPartialEq;
-use crate::command::Fault;
-use crate::command::FaultDebug;
-use crate::command::FaultPartialEq;
-use crate::command::Numbers;
-use crate::command::Side;
-use crate::command::VerbDebug;
-use crate::command::VerbPartialEq;
-use crate::command::decide;
-use crate::command::read_command;
-use crate::command::verb_of;
-use crate::words::cut;
 use layout::refusal::Refusal;
+use script::command::Command;
+use script::command::CommandDebug;
+use script::command::CommandPartialEq;
+use script::command::Fault;
+use script::command::FaultDebug;
+use script::command::FaultPartialEq;
+use script::command::Numbers;
+use script::command::Side;
+use script::command::VerbDebug;
+use script::command::VerbPartialEq;
+use script::command::decide;
+use script::command::read_command;
+use script::command::verb_of;
+use script::words::cut;
 use std::test::*;
 
 const REMARK: &[u8] =

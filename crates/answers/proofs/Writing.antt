@@ -1,6 +1,6 @@
 -- What a turn of a loop that writes keeps.
 use mathlib.Core.Path.{_≡_, sym, ap, _∙_}
-use mathlib.Core.List.{List, [], _∷_, _++_, map, append-nil, append-assoc}
+use mathlib.Core.List.{List, [], _∷_, _++_, map, append-assoc}
 use Prim.Native.Nat.{ℕ, suc, _+_, _-_, _/_, _%_, _^_, _<_, _≤_}
 use native.Mathlib.Omega.{arith}
 use lib.ListN.{getD}
@@ -13,7 +13,7 @@ use Rattle.std.proofs.shelf.Decimals.{decimal-digit, decimal-step}
 use Rattle.std.specs.declared.option.Option.{Option}
 use Rattle.std.specs.declared.option.Option.the-variants.{Some, None}
 use Rattle.std.specs.Iters.{counting}
-use Rattle.script.specs.Answers.{field, spaced, rowText}
+use Rattle.answers.specs.Answers.{field, spaced, rowText}
 
 -- one more of the numbers that f gives, written behind a blank
 pub spaced-more : (f : ℕ → ℕ) (c n x : ℕ) (old new all : List ℕ) → c < n → x ≡ f c → new ≡ old ++ field x → old ++ spaced (map f (counting c (n - c))) ≡ all → new ++ spaced (map f (counting (c + 1) (n - (c + 1)))) ≡ all

@@ -1,8 +1,8 @@
 use mathlib.Core.Path.{_∙_}
 use Prim.Native.Nat.{_+_, _*_}
 use lib.ListN.{getD}
-use Rattle.script.proofs.Writing.{spaced-more}
-use Rattle.script.proofs.answer.put_tail.Needs as need
+use Rattle.answers.proofs.Writing.{spaced-more}
+use Rattle.answers.proofs.answer.put_tail.Needs as need
 
 pub loop-column-again : need.loop-column-again
 loop-column-again c =

@@ -1,6 +1,6 @@
 use borrow.Author.Needs.{needs}
-use Rattle.script.proofs.Writing.{put-digit, put-more}
-use Rattle.script.proofs.answer.+put_number.Needs as need
+use Rattle.answers.proofs.Writing.{put-digit, put-more}
+use Rattle.answers.proofs.answer.+put_number.Needs as need
 
 pub returns-then-n-lt10 : need.returns-then-n-lt10
 returns-then-n-lt10 t c = search (needs, put-digit)

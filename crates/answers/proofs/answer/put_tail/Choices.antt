@@ -4,8 +4,8 @@ use Prim.Native.Nat.{_+_, _-_, _*_}
 use lib.ListN.{getD}
 use Rattle.std.specs.Iters.{counting}
 use Rattle.std.specs.Of.Vec.{vec-items}
-use Rattle.script.specs.Answers.{spaced}
-use Rattle.script.proofs.answer.put_tail.Given as given
+use Rattle.answers.specs.Answers.{spaced}
+use Rattle.answers.proofs.answer.put_tail.Given as given
 
 abbrev pub Inv-loop-column : given.InvT-loop-column
 Inv-loop-column l =

@@ -7,7 +7,7 @@ ghost use Rattle.std.specs.Iters.{counting};
 ghost use Rattle.std.specs.Of.Vec.{vec-items};
 ghost use Rattle.std.specs.Vec.{made};
 ghost use Rattle.std.specs.Written.{decimal};
-ghost use Rattle.script.specs.Answers.{letterOf, field, spaced, rowText, doneText, refusedText, answerText};
+ghost use Rattle.answers.specs.Answers.{letterOf, field, spaced, rowText, doneText, refusedText, answerText};
 use layout::refusal::Refusal;
 use layout::refusal::RefusalDebug;
 use layout::refusal::RefusalPartialEq;
@@ -105,6 +105,7 @@ pub fn put_answer(out: &mut Vec<u8>, answer: Answer) -> Result<(), AllocError>
 fn cell(cells: &[u32], rows: u32, row: u32, column: u32) -> u32
     ensures { λ r. ⌜ r ≡ getD (now (cells .entry)) (row + column * rows) 0 ⌝ }
 {
+    // The product of two 32-bit numbers and a third fit 64 bits.
     let place = row as usize + column as usize * rows as usize;
     cells.get(place).copied().unwrap_or(0)
 }
@@ -126,6 +127,7 @@ fn put_tail(
 }
 
 // Appends a row of a table that lies column by column: its cells, parted by single blanks, and a line feed.
+// A place beyond the slice counts as 0, so that any size may be asked for.
 pub fn put_row(
     out: &mut Vec<u8>,
     cells: &[u32],

@@ -7,8 +7,8 @@ use lib.Dec.{leb}
 use Rattle.std.specs.Written.{decimal}
 use Rattle.layout.specs.declared.refusal.Refusal.{Refusal}
 use Rattle.layout.specs.Refusals.{numberOf}
-use Rattle.script.specs.declared.answer.Answer.{Answer}
-use Rattle.script.specs.declared.answer.Answer.the-variants.{Done, Refused}
+use Rattle.answers.specs.declared.answer.Answer.{Answer}
+use Rattle.answers.specs.declared.answer.Answer.the-variants.{Done, Refused}
 
 -- t for the questions 14 to 16, j for 5 to 8, else s
 abbrev pub letterFor : ℕ → ℕ

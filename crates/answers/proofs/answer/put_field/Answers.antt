@@ -4,8 +4,8 @@ use Rattle.std.proofs.Told.{chosen}
 use Rattle.std.specs.Of.Vec.{vec-items}
 use Rattle.std.specs.Results.{isOk}
 use Rattle.std.specs.Written.{decimal}
-use Rattle.script.proofs.Writing.{joins}
-use Rattle.script.proofs.answer.put_field.Needs as need
+use Rattle.answers.proofs.Writing.{joins}
+use Rattle.answers.proofs.answer.put_field.Needs as need
 
 pub returns : need.returns
 returns c =

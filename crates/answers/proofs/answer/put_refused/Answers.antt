@@ -6,9 +6,9 @@ use Rattle.std.specs.Of.Vec.{vec-items}
 use Rattle.std.specs.Results.{isOk}
 use Rattle.layout.specs.declared.refusal.Refusal.{Refusal}
 use Rattle.layout.specs.Refusals.{numberOf}
-use Rattle.script.specs.Answers.{letterOf, field}
-use Rattle.script.proofs.Writing.{joins}
-use Rattle.script.proofs.answer.put_refused.Needs as need
+use Rattle.answers.specs.Answers.{letterOf, field}
+use Rattle.answers.proofs.Writing.{joins}
+use Rattle.answers.proofs.answer.put_refused.Needs as need
 
 -- from the number on, and from the letter on
 abbrev ending : Refusal → List ℕ

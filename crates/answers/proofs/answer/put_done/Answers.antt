@@ -3,9 +3,9 @@ use mathlib.Core.List.{[], _∷_, _++_}
 use Rattle.std.proofs.Told.{chosen}
 use Rattle.std.specs.Of.Vec.{vec-items}
 use Rattle.std.specs.Results.{isOk}
-use Rattle.script.specs.Answers.{field}
-use Rattle.script.proofs.Writing.{joins}
-use Rattle.script.proofs.answer.put_done.Needs as need
+use Rattle.answers.specs.Answers.{field}
+use Rattle.answers.proofs.Writing.{joins}
+use Rattle.answers.proofs.answer.put_done.Needs as need
 
 pub returns : need.returns
 returns c =

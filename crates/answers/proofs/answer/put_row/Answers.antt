@@ -3,8 +3,8 @@ use Prim.Native.Nat.{_+_, _*_}
 use lib.ListN.{getD}
 use Rattle.std.proofs.Told.{chosen}
 use Rattle.std.specs.Results.{isOk}
-use Rattle.script.proofs.Writing.{row-is}
-use Rattle.script.proofs.answer.put_row.Needs as need
+use Rattle.answers.proofs.Writing.{row-is}
+use Rattle.answers.proofs.answer.put_row.Needs as need
 
 pub returns : need.returns
 returns c =

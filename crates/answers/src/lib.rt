@@ -1,0 +1,2 @@
+// Writes the answers to the lines of a script.
+pub mod answer;

@@ -1,0 +1,3 @@
+// Examples of reading a script's lines.
+#[cfg(test)]
+mod tests;
