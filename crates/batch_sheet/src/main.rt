@@ -8,7 +8,7 @@ use journal::parts::Run;
 use journal::parts::Side;
 use layout::vec_storage::Dense;
 use layout::vec_storage::DenseLayout;
-use script::words::next_line;
+use session::state::Lines;
 use session::state::Session;
 use sheet::sheet::Sheet;
 use std::error::AnyError;
@@ -60,26 +60,15 @@ fn fill<R: Read>(input: &mut R, page: &mut [u8]) -> io::Result<usize>
     Ok(n)
 }
 
-// Obeys the lines one after another. The text is printed whenever much of it has come together.
-fn obey_all(
-    rt: &LibcRuntime,
-    session: &mut Session<'_, '_>,
-    script: &[u8],
-) -> Result<(), AnyError> {
+// Obeys the script, and prints what is said of it whenever enough has come together.
+fn obey(rt: &LibcRuntime, session: &mut Session<'_, '_>, script: &[u8]) -> Result<(), AnyError> {
     let mut out = Vec::new(rt.alloc());
-    let mut rest = script;
-    let mut number: usize = 1;
-    while !rest.is_empty() {
-        let (line, after) = next_line(rest);
-        session.obey(number, line, &mut out)?;
-        if out.len() >= INPUT {
-            rt.stdout().write_all(out.as_slice())?;
-            out.clear();
-        }
-        rest = after;
-        number = number.saturating_add(1);
+    let mut lines = Lines::new(script);
+    while !lines.is_empty() {
+        session.run(&mut lines, &mut out)?;
+        rt.stdout().write_all(out.as_slice())?;
+        out.clear();
     }
-    rt.stdout().write_all(out.as_slice())?;
     Ok(())
 }
 
@@ -99,7 +88,7 @@ fn run(rt: &LibcRuntime) -> Result<(), AnyError> {
         &mut saved,
     );
     let mut session = Session::new(&mut sheet);
-    obey_all(rt, &mut session, &page[0..read])
+    obey(rt, &mut session, &page[0..read])
 }
 
 fn main(rt: LibcRuntime) -> Result<(), AnyError> {

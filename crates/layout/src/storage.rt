@@ -2,8 +2,11 @@
 ghost use mathlib.Core.Path.{_≡_};
 ghost use Prim.Native.Nat.{_+_, _*_, _<_, _≤_};
 ghost use lib.ListN.{length};
-ghost use Rattle.layout.specs.Cells.{Cloned, ColumnCloned};
+ghost use Rattle.std.specs.Results.{Cases};
+ghost use Rattle.layout.specs.Cells.{Cloned, ColumnCloned, cloneRules};
+ghost use Rattle.layout.specs.Checks.{Checked};
 ghost use Rattle.layout.specs.Lawful.{Grid, Lawful};
+use super::refusal::Refusal;
 
 pub trait Layout {
     // What the layout means.
@@ -45,13 +48,24 @@ fn clone_column<L: Layout, T: Copy>(
     }
 }
 
-// Copies a layout's table, column by column, to the start of a buffer.
-pub fn clone_owned<L: Layout, T: Copy>(layout: &L, source: &[T], cells: &mut [T])
-    requires { ⌜ (grid (now layout) .span ≤ length (now source)) × (grid (now layout) .rows * grid (now layout) .columns ≤ length (now cells)) ⌝ }
-    ensures { λ _. ⌜ Cloned (grid (now (layout .entry))) (now (source .entry)) (now (cells .entry)) (now (cells .exit)) (grid (now (layout .entry)) .columns) ⌝ }
+// Copies a layout's table, column by column, to the start of a buffer. Puts questions 4 and 10.
+pub fn clone_owned<L: Layout, T: Copy>(
+    layout: &L,
+    source: &[T],
+    cells: &mut [T],
+) -> Result<(), Refusal>
+    ensures answer { λ r. ⌜ Checked (cloneRules (grid (now (layout .entry))) (length (now (source .entry))) (length (now (cells .entry)))) r ⌝ }
+    ensures after { λ r. ⌜ Cases r (λ _. Cloned (grid (now (layout .entry))) (now (source .entry)) (now (cells .entry)) (now (cells .exit)) (grid (now (layout .entry)) .columns)) (λ _. now (cells .exit) ≡ now (cells .entry)) ⌝ }
 {
     let (rows, columns) = layout.shape();
+    if rows as usize * columns as usize > cells.len() {
+        return Err(Refusal::TooManyCells);
+    }
+    if layout.span() as usize > source.len() {
+        return Err(Refusal::BufferTooShort);
+    }
     for c in 0..columns {
         clone_column(layout, source, cells, rows, c);
     }
+    Ok(())
 }

@@ -17,6 +17,7 @@ use Rattle.script.specs.declared.command.Command.the-variants.{Insert, Remove, 
 use Rattle.script.specs.declared.command.Fault.{Fault}
 use Rattle.script.specs.declared.command.Side.{Side}
 use Rattle.script.specs.declared.command.Side.the-variants.{Rows, Columns}
+use Rattle.script.specs.Commands.{decided}
 use Rattle.answers.specs.Answers.{doneText, noText, rowText}
 
 -- a sheet, and whether the script has opened it
@@ -109,3 +110,9 @@ told number c t (refused k) = noText number 1 k
 abbrev pub obeyed : State → ℕ → Result Command Fault → State × List ℕ
 obeyed s number (Err f) = (s, noText number (f .word) (numberOf (f .refusal)))
 obeyed s number (Ok c) = (performed s c .0, told number c (performed s c .0 .sheet .table) (performed s c .1))
+
+-- what is written of the lines, from the one with this number on
+abbrev pub transcript : State → ℕ → List (List ℕ) → List ℕ
+transcript s number [] = []
+transcript s number (line ∷ lines) =
+    obeyed s number (decided line) .1 ++ transcript (obeyed s number (decided line) .0) (number + 1) lines

@@ -100,3 +100,9 @@ pub refilled-ghosts :
 refilled-ghosts grid law source p q (Ok u) tops reachable rules w = filled-ghosts grid law source p q w rules
 refilled-ghosts {A} grid law source p q (Err e) tops reachable rules same =
     (subst (λ (z : Parts A). TopsFit z) (sym same) tops, (subst (λ (z : Parts A). Reachable (view z)) (sym same) reachable, tt))
+
+-- what was done where all rules hold
+pub granted :
+    (P Q : Type 0) (rules : List Rule) (r : Result Unit Refusal) → Passes rules → Checked rules r → Cases r (λ _. P) (λ _. Q) → P
+granted P Q rules (Ok u) p h w = w
+granted P Q rules (Err e) p h w = absurd (not-both rules e h p)

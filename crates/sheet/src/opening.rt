@@ -46,7 +46,8 @@ pub(crate) fn fill<L: Layout, T: Copy>(p: &mut Parts<'_, T>, layout: &L, source:
     ensures { λ _. ⌜ Filled (grid (now (layout .entry))) (now (source .entry)) (now (p .entry)) (now (p .exit)) ⌝ }
 {
     let (rows, columns) = layout.shape();
-    clone_owned(layout, source, p.cells);
+    // There is room, so this is not refused.
+    let _ = clone_owned(layout, source, p.cells);
     p.rows = rows;
     p.columns = columns;
     p.tops = Tops {
