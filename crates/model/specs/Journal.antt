@@ -22,6 +22,7 @@ isOld k (new j) = false
 abbrev pub stands : ℕ → List Origin → ℕ
 stands k os = place (isOld k) os
 
+-- old line k is there still
 abbrev pub survives : ℕ → List Origin → Bool
 survives k os = ltb (stands k os) (length os)
 
@@ -44,9 +45,11 @@ runsFrom p a (suc n) = cond (p a) (begun a (runsFrom p (a + 1) n)) (runsFrom p (
 abbrev pub oneRun : ℕ → ℕ → List (ℕ × ℕ)
 oneRun i n = cond (ltb 0 n) ((i, n) ∷ []) []
 
+-- the lines of the runs
 abbrev pub linesOf : List (ℕ × ℕ) → List ℕ
 linesOf rs = joined (λ r. counting (r .0) (r .1)) rs
 
+-- the runs that an edit of m lines enters: only a removal has any
 abbrev pub removed : Edit → ℕ → List (ℕ × ℕ)
 removed keep m = []
 removed (insert i n) m = []
@@ -82,7 +85,7 @@ recalled s (gap s′ i n) rs = on s s′ (insert i n)
 recalled row (resizing m n) rs = resize m
 recalled column (resizing m n) rs = resize n
 
--- an entry of the journal (at the mill: a slip)
+-- an entry of the journal
 pub record Entry : Type 0 where
   pub note : Note
   -- the shape before
@@ -92,6 +95,7 @@ pub record Entry : Type 0 where
   pub runsOwn : ℕ
   pub cellsOwn : ℕ
 
+-- how much each handed-in buffer holds
 pub record Room : Type 0 where
   pub forCells : ℕ
   pub forEntries : ℕ

@@ -16,6 +16,7 @@ use layout::vec_storage::DenseLayout;
 use script::command::Command;
 use script::command::Side;
 use script::command::decide;
+use sheet::cell::Weight;
 use sheet::sheet::Sheet;
 use std::alloc::AllocError;
 
@@ -27,7 +28,7 @@ fn needs_sheet(command: Command) -> bool
 }
 
 // Appends the rows of the sheet's table, a line each.
-fn put_table(out: &mut Vec<u8>, sheet: &Sheet<'_, u32>) -> Result<(), AllocError>
+fn put_table(out: &mut Vec<u8>, sheet: &Sheet<'_, Weight>) -> Result<(), AllocError>
     ensures { λ r. ⌜ made r (λ _. vec-items (now (out .exit)) ≡ vec-items (now (out .entry)) ++ printed (view (now (sheet .entry) .parts) .table)) ⌝ }
 {
     let (rows, columns) = sheet.shape();
@@ -40,7 +41,7 @@ fn put_table(out: &mut Vec<u8>, sheet: &Sheet<'_, u32>) -> Result<(), AllocError
 
 impl<'s, 'a> Session<'s, 'a> {
     // A session on this sheet; the script has opened none yet.
-    pub fn new(sheet: &'s mut Sheet<'a, u32>) -> Session<'s, 'a>
+    pub fn new(sheet: &'s mut Sheet<'a, Weight>) -> Session<'s, 'a>
         ensures { λ r. ⌜ stateOf r ≡ unopened (view (now (sheet .entry) .parts)) ⌝ }
     {
         Session {
