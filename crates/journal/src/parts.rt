@@ -1,3 +1,5 @@
+ghost use mathlib.Core.Path.{_≡_};
+
 // Which lines a change is about.
 #[derive(Clone, Copy, PartialEq, Eq, Debug)]
 pub enum Side {
@@ -48,4 +50,24 @@ pub struct Parts<'a, T> {
     pub rows: u32,
     pub columns: u32,
     pub tops: Tops,
+}
+
+// Takes the parts out, to work on several buffers at once; empty ones stand there until they are put back.
+pub fn take_out<'a, T>(p: &mut Parts<'a, T>) -> Parts<'a, T>
+    ensures { λ r. ⌜ r ≡ now (p .entry) ⌝ }
+{
+    let none = Parts {
+        cells: &mut [],
+        entries: &mut [],
+        runs: &mut [],
+        saved: &mut [],
+        rows: 0,
+        columns: 0,
+        tops: Tops {
+            entries: 0,
+            runs: 0,
+            saved: 0,
+        },
+    };
+    std::mem::replace(p, none)
 }

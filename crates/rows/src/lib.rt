@@ -14,7 +14,7 @@ use journal::entering::run_count;
 use journal::parts::Note;
 use journal::parts::Parts;
 use journal::parts::Side;
-use journal::parts::Tops;
+use journal::parts::take_out;
 use journal::questions::ask;
 use layout::refusal::Refusal;
 
@@ -43,20 +43,6 @@ fn cut_rows<T: Copy>(p: &mut Parts<'_, T>, i: u32, n: u32)
     requires fits { ⌜ Fits (now p) (now p .rows - n) (now p .columns) (length (oneRun i n)) (n * now p .columns) ⌝ }
     ensures { λ _. ⌜ Performed (now (p .entry)) (now (p .exit)) (removeLines row i n) (now (p .entry) .rows - n) (now (p .entry) .columns) (oneRun i n) (n * now (p .entry) .columns) ⌝ }
 {
-    let none = Parts {
-        cells: &mut [],
-        entries: &mut [],
-        runs: &mut [],
-        saved: &mut [],
-        rows: 0,
-        columns: 0,
-        tops: Tops {
-            entries: 0,
-            runs: 0,
-            saved: 0,
-        },
-    };
-    let q = std::mem::replace(p, none);
     let Parts {
         cells,
         entries,
@@ -65,7 +51,7 @@ fn cut_rows<T: Copy>(p: &mut Parts<'_, T>, i: u32, n: u32)
         rows,
         columns,
         tops,
-    } = q;
+    } = take_out(p);
     moves::edition::remove_rows(
         cells,
         rows as usize,

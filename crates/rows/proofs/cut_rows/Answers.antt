@@ -16,8 +16,8 @@ pub returns : need.returns
 returns g c =
     let i = c .args .i in
     let n = c .args .n in
-    let q = c .replace-q .result in
-    let same : q ≡ c .args .p .now = c .replace-q .ensures .value in
+    let q = c .take-out-cells .result in
+    let same : q ≡ c .args .p .now = c .take-out-cells .ensures in
     let b = subst (λ z. Bounds (view z)) (sym same) (c .pre .bounds) in
     let there : i + n ≤ q .rows = subst (λ (z : Parts _). i + n ≤ z .rows) (sym same) (c .pre .there) in
     let fits = subst (λ (z : Parts _). Fits z (z .rows - n) (z .columns) (length (oneRun i n)) (n * z .columns)) (sym same) (c .pre .fits) in
