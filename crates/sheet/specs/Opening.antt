@@ -29,6 +29,10 @@ noTable = record { rows = 0; columns = 0; cells = [] }
 abbrev pub room : (cells entries runs saved : ℕ) → Room
 room cells entries runs saved = record { forCells = cells; forEntries = entries; forRuns = runs; forSaved = saved }
 
+-- the room in these buffers
+abbrev pub roomIn : {A E R : Type 0} → List A → List E → List R → List A → Room
+roomIn cells entries runs saved = room (length cells) (length entries) (length runs) (length saved)
+
 -- what opening asks: of the buffers, of the shape, of the cells, and of the source, which has so many cells
 abbrev pub openingRules : Grid → ℕ → Room → List Rule
 openingRules grid source r =

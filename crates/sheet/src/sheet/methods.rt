@@ -6,7 +6,7 @@ ghost use Rattle.model.specs.Sheet.{row, column, insertLines, removeLines};
 ghost use Rattle.model.specs.Journal.{change, opened};
 ghost use Rattle.journal.specs.View.{entryOf, roomOf, runOf, view};
 ghost use Rattle.journal.specs.Answering.{Answers};
-ghost use Rattle.sheet.specs.Opening.{Read, noTable, openingRules, room, tableIn};
+ghost use Rattle.sheet.specs.Opening.{Read, noTable, openingRules, room, roomIn, tableIn};
 ghost use Rattle.std.specs.Results.{Cases};
 use super::super::opening;
 use super::super::opening::Sizes;
@@ -28,7 +28,7 @@ impl<'a, T: Copy> Sheet<'a, T> {
         runs: &[Run],
         saved: &[T],
     ) -> Result<(), Refusal>
-        ensures { λ r. ⌜ Checked (openingRules (grid (now (layout .entry))) (length (now (source .entry))) (room (length (now (cells .entry))) (length (now (entries .entry))) (length (now (runs .entry))) (length (now (saved .entry))))) r ⌝ }
+        ensures { λ r. ⌜ Checked (openingRules (grid (now (layout .entry))) (length (now (source .entry))) (roomIn (now (cells .entry)) (now (entries .entry)) (now (runs .entry)) (now (saved .entry)))) r ⌝ }
     {
         let sizes = Sizes {
             cells: cells.len(),
@@ -48,8 +48,8 @@ impl<'a, T: Copy> Sheet<'a, T> {
         runs: &'a mut [Run],
         saved: &'a mut [T],
     ) -> Sheet<'a, T>
-        ensures made { λ r. ⌜ (Passes (openingRules (grid (now (layout .entry))) (length (now (source .entry))) (room (length (now (cells .entry))) (length (now (entries .entry))) (length (now (runs .entry))) (length (now (saved .entry))))) → view (r .parts) ≡ opened (tableIn (grid (now (layout .entry))) (now (source .entry))) (room (length (now (cells .entry))) (length (now (entries .entry))) (length (now (runs .entry))) (length (now (saved .entry))))) ⌝ }
-        ensures refused { λ r. ⌜ ((Passes (openingRules (grid (now (layout .entry))) (length (now (source .entry))) (room (length (now (cells .entry))) (length (now (entries .entry))) (length (now (runs .entry))) (length (now (saved .entry))))) → ⊥) → view (r .parts) ≡ opened noTable (room 0 0 0 0)) ⌝ }
+        ensures made { λ r. ⌜ (Passes (openingRules (grid (now (layout .entry))) (length (now (source .entry))) (roomIn (now (cells .entry)) (now (entries .entry)) (now (runs .entry)) (now (saved .entry)))) → view (r .parts) ≡ opened (tableIn (grid (now (layout .entry))) (now (source .entry))) (roomIn (now (cells .entry)) (now (entries .entry)) (now (runs .entry)) (now (saved .entry)))) ⌝ }
+        ensures refused { λ r. ⌜ ((Passes (openingRules (grid (now (layout .entry))) (length (now (source .entry))) (roomIn (now (cells .entry)) (now (entries .entry)) (now (runs .entry)) (now (saved .entry)))) → ⊥) → view (r .parts) ≡ opened noTable (room 0 0 0 0)) ⌝ }
     {
         if Sheet::check(layout, source, cells, entries, runs, saved).is_err() {
             return Sheet::empty(cells, entries, runs, saved);
