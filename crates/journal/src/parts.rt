@@ -1,4 +1,5 @@
 ghost use mathlib.Core.Path.{_≡_};
+ghost use lib.ListN.{length};
 
 // Which lines a change is about.
 #[derive(Clone, Copy, PartialEq, Eq, Debug)]
@@ -54,7 +55,8 @@ pub struct Parts<'a, T> {
 
 // Takes the parts out, to work on several buffers at once; empty ones stand there until they are put back.
 pub fn take_out<'a, T>(p: &mut Parts<'a, T>) -> Parts<'a, T>
-    ensures { λ r. ⌜ r ≡ now (p .entry) ⌝ }
+    ensures value { λ r. ⌜ r ≡ now (p .entry) ⌝ }
+    ensures left { λ _. ⌜ (now (p .exit) .rows ≡ 0) × (now (p .exit) .columns ≡ 0) × (length (now (now (p .exit) .cells)) ≡ 0) × (length (now (now (p .exit) .saved)) ≡ 0) ⌝ }
 {
     let none = Parts {
         cells: &mut [],
