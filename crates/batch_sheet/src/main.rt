@@ -29,11 +29,7 @@ const RUNS: usize = 256;
 const SAVED: usize = 4096;
 
 const NO_ENTRY: Entry = Entry {
-    note: Note::Removal {
-        side: Side::Rows,
-        at: 0,
-        count: 0,
-    },
+    note: Note::Removal(Side::Rows, 0, 0),
     rows: 0,
     columns: 0,
     runs: 0,

@@ -52,10 +52,11 @@ fn cut_columns<T: Copy>(p: &mut Parts<'_, T>, i: u32, n: u32)
         columns,
         tops,
     } = take_out(p);
+    let (height, width) = (rows as usize, columns as usize);
     moves::edition::remove_columns(
         cells,
-        rows as usize,
-        columns as usize,
+        height,
+        width,
         i as usize,
         n as usize,
         saved,
@@ -71,16 +72,8 @@ fn cut_columns<T: Copy>(p: &mut Parts<'_, T>, i: u32, n: u32)
         tops,
     };
     let own = note_run(p, i, n);
-    enter(
-        p,
-        Note::Removal {
-            side: Side::Columns,
-            at: i,
-            count: n,
-        },
-        own,
-        rows as usize * n as usize,
-    );
+    let lost = height * n as usize;
+    enter(p, Note::Removal(Side::Columns, i, n), own, lost);
     p.columns -= n;
 }
 
@@ -111,15 +104,6 @@ fn put_columns<T: Copy>(p: &mut Parts<'_, T>, i: u32, n: u32, v: T)
     let rows = p.rows as usize;
     let columns = p.columns as usize;
     moves::edition::insert_columns(p.cells, rows, columns, i as usize, n as usize, v);
-    enter(
-        p,
-        Note::Insertion {
-            side: Side::Columns,
-            at: i,
-            count: n,
-        },
-        0,
-        0,
-    );
+    enter(p, Note::Insertion(Side::Columns, i, n), 0, 0);
     p.columns += n;
 }

@@ -8,11 +8,11 @@ pub enum Side {
     Columns,
 }
 
-// Which change an entry is of, and its numbers.
+// Which change an entry is of, and its numbers: where the lines begin, and how many they are.
 #[derive(Clone, Copy, PartialEq, Eq, Debug)]
 pub enum Note {
-    Insertion { side: Side, at: u32, count: u32 },
-    Removal { side: Side, at: u32, count: u32 },
+    Insertion(Side, u32, u32),
+    Removal(Side, u32, u32),
 }
 
 // Removed lines that stood side by side.

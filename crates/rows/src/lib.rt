@@ -52,10 +52,11 @@ fn cut_rows<T: Copy>(p: &mut Parts<'_, T>, i: u32, n: u32)
         columns,
         tops,
     } = take_out(p);
+    let (height, width) = (rows as usize, columns as usize);
     moves::edition::remove_rows(
         cells,
-        rows as usize,
-        columns as usize,
+        height,
+        width,
         i as usize,
         n as usize,
         saved,
@@ -71,16 +72,8 @@ fn cut_rows<T: Copy>(p: &mut Parts<'_, T>, i: u32, n: u32)
         tops,
     };
     let own = note_run(p, i, n);
-    enter(
-        p,
-        Note::Removal {
-            side: Side::Rows,
-            at: i,
-            count: n,
-        },
-        own,
-        n as usize * columns as usize,
-    );
+    let lost = n as usize * width;
+    enter(p, Note::Removal(Side::Rows, i, n), own, lost);
     p.rows -= n;
 }
 
@@ -111,15 +104,6 @@ fn put_rows<T: Copy>(p: &mut Parts<'_, T>, i: u32, n: u32, v: T)
     let rows = p.rows as usize;
     let columns = p.columns as usize;
     moves::edition::insert_rows(p.cells, rows, columns, i as usize, n as usize, v);
-    enter(
-        p,
-        Note::Insertion {
-            side: Side::Rows,
-            at: i,
-            count: n,
-        },
-        0,
-        0,
-    );
+    enter(p, Note::Insertion(Side::Rows, i, n), 0, 0);
     p.rows += n;
 }

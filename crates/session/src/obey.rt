@@ -4,7 +4,8 @@ ghost use Rattle.std.specs.Of.Vec.{vec-items};
 ghost use Rattle.std.specs.Vec.{made};
 ghost use Rattle.journal.specs.View.{answered, view};
 ghost use Rattle.script.specs.Commands.{decided};
-ghost use Rattle.session.specs.Transcript.{needsSheet, obeyed, outcome, performed, printed, unopened};
+ghost use Rattle.model.specs.Sheet.{insertLines, removeLines};
+ghost use Rattle.session.specs.Transcript.{changing, sideOf, needsSheet, obeyed, outcome, performed, printed, unopened};
 ghost use Rattle.session.specs.Meaning.{NewAnswers, stateOf};
 use super::state::Session;
 use answers::answer::Answer;
@@ -66,6 +67,26 @@ impl<'s, 'a> Session<'s, 'a> {
         opened
     }
 
+    fn insert(&mut self, side: Side, at: u32, count: u32, value: Weight) -> Result<(), Refusal>
+        ensures which { λ r. ⌜ answered r ≡ changing (stateOf (now (self .entry))) (insertLines (sideOf side) at count value) .1 ⌝ }
+        ensures state { λ r. ⌜ stateOf (now (self .exit)) ≡ changing (stateOf (now (self .entry))) (insertLines (sideOf side) at count value) .0 ⌝ }
+    {
+        match side {
+            Side::Rows => self.sheet.insert_rows(at, count, value),
+            Side::Columns => self.sheet.insert_columns(at, count, value),
+        }
+    }
+
+    fn remove(&mut self, side: Side, at: u32, count: u32) -> Result<(), Refusal>
+        ensures which { λ r. ⌜ answered r ≡ changing (stateOf (now (self .entry))) (removeLines (sideOf side) at count) .1 ⌝ }
+        ensures state { λ r. ⌜ stateOf (now (self .exit)) ≡ changing (stateOf (now (self .entry))) (removeLines (sideOf side) at count) .0 ⌝ }
+    {
+        match side {
+            Side::Rows => self.sheet.remove_rows(at, count),
+            Side::Columns => self.sheet.remove_columns(at, count),
+        }
+    }
+
     // Carries out a command; first of all a sheet must be open for it.
     fn perform(&mut self, command: Command) -> Result<(), Refusal>
         ensures which { λ r. ⌜ answered r ≡ performed (stateOf (now (self .entry))) command .1 ⌝ }
@@ -81,27 +102,12 @@ impl<'s, 'a> Session<'s, 'a> {
                 value,
             } => self.open_new(rows, columns, value),
             Command::Insert {
-                side: Side::Rows,
+                side,
                 at,
                 count,
                 value,
-            } => self.sheet.insert_rows(at, count, value),
-            Command::Insert {
-                side: Side::Columns,
-                at,
-                count,
-                value,
-            } => self.sheet.insert_columns(at, count, value),
-            Command::Remove {
-                side: Side::Rows,
-                at,
-                count,
-            } => self.sheet.remove_rows(at, count),
-            Command::Remove {
-                side: Side::Columns,
-                at,
-                count,
-            } => self.sheet.remove_columns(at, count),
+            } => self.insert(side, at, count, value),
+            Command::Remove { side, at, count } => self.remove(side, at, count),
             Command::Print | Command::Remark => Ok(()),
             Command::RemoveAt { .. }
             | Command::Swap { .. }

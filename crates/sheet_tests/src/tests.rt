@@ -69,11 +69,7 @@ struct Example<'e> {
 }
 
 const NO_ENTRY: Entry = Entry {
-    note: Note::Removal {
-        side: Side::Rows,
-        at: 0,
-        count: 0,
-    },
+    note: Note::Removal(Side::Rows, 0, 0),
     rows: 0,
     columns: 0,
     runs: 0,
