@@ -1,4 +1,6 @@
 // Reads last year's archive in place, picks and selects growers, and prints what it did.
+#![tactic(auto)]
+
 use edition::{select_columns, select_rows, swap_rows};
 use layout::indexing::{Picked, get};
 use layout::matrix_view::{Strided, column};

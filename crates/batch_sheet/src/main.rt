@@ -1,4 +1,6 @@
 // Carries out a script from standard input on a sheet of weights, and prints what is said of each line.
+#![tactic(auto)]
+
 ghost use Rattle.std.specs.Prelude.{◌≤◌, length, IfOk};
 
 use journal::parts::{Entry, Note, Run, Side};

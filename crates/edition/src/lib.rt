@@ -1,4 +1,6 @@
 // What acts on a caller's buffer through any layout: swaps, selections, triangles.
+#![tactic(auto)]
+
 ghost use Rattle.std.specs.Prelude.{◌≡◌, ℕ, ◌+◌, ◌*◌, ◌<◌, ◌≤◌, length, MatchResult, slice_index};
 ghost use Rattle.layout.specs.Cells.{Cloned};
 ghost use Rattle.layout.specs.Checks.{Checked};

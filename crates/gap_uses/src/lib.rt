@@ -1,4 +1,6 @@
 // A user's way with a gap: rows of listed cells put into a sheet.
+#![tactic(auto)]
+
 ghost use Rattle.model.specs.Sheet.{row, fill_lines};
 ghost use Rattle.model.specs.Journal.{change, step};
 ghost use Rattle.journal.specs.View.{view};

@@ -1,4 +1,6 @@
 // How entries leave the journal: the newest one with its runs and saved cells, or all of them.
+#![tactic(auto)]
+
 ghost use Rattle.std.specs.Prelude.{◌≡◌, ◌<◌, ◌≤◌, Ok};
 ghost use Rattle.model.specs.Journal.{settle};
 ghost use Rattle.journal.specs.Answering.{Answers, Held};

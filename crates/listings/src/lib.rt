@@ -1,4 +1,6 @@
 // Listed rows and columns taken out of a sheet, on its buffers: the runs, the questions, the moves, the entry.
+#![tactic(auto)]
+
 ghost use Rattle.std.specs.Prelude.{◌≡◌, ◌+◌, ◌<◌, ◌≤◌, map, length};
 ghost use Rattle.model.specs.Sheet.{row, column, remove_listed};
 ghost use Rattle.model.specs.Journal.{change};

@@ -1,5 +1,7 @@
 // The meaning of the sheet, in specs/: what a change does to lines and cells, the journal, and every history of calls.
 // The functions here only carry theorems about those definitions.
+#![tactic(auto)]
+
 pub mod sentences;
 
 ghost use Rattle.model.specs.History.{Replay, TakesBack};

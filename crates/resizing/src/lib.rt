@@ -1,4 +1,6 @@
 // A sheet given another shape, on its buffers: the questions, the moves, the entry.
+#![tactic(auto)]
+
 mod shapes;
 
 ghost use Rattle.std.specs.Prelude.{[]};

@@ -1,4 +1,6 @@
 // Rows put into and taken out of a sheet, on its buffers: the questions, the moves, the entry.
+#![tactic(auto)]
+
 ghost use Rattle.std.specs.Prelude.{◌+◌, ◌-◌, ◌*◌, ◌≤◌, [], length};
 ghost use Rattle.model.specs.Sheet.{row, insert_lines, remove_lines};
 ghost use Rattle.model.specs.Journal.{change, one_run};

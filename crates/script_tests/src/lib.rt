@@ -1,3 +1,5 @@
 // Examples of reading a script's lines.
+#![tactic(auto)]
+
 #[cfg(test)]
 mod tests;

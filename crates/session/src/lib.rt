@@ -1,4 +1,6 @@
 // Carries out a script on a sheet of weights.
+#![tactic(auto)]
+
 pub mod obey;
 pub mod run;
 pub mod state;

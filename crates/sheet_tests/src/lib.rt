@@ -1,4 +1,6 @@
 // Examples of the sheet, for both kinds of cell.
+#![tactic(auto)]
+
 #[cfg(test)]
 mod changes;
 #[cfg(test)]

@@ -1,4 +1,6 @@
 // Two rows or two columns of a sheet change places, on its buffers, and change back again.
+#![tactic(auto)]
+
 ghost use Rattle.std.specs.Prelude.{◌≡◌, ◌*◌, ◌<◌, ◌≤◌, [], length, Ok};
 ghost use Rattle.layout.specs.Lawful.{dense};
 ghost use Rattle.model.specs.Sheet.{swap_lines};

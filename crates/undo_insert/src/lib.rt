@@ -1,4 +1,6 @@
 // Lines that an insertion or a filled gap put in, taken out again. Their cells need no saving.
+#![tactic(auto)]
+
 ghost use Rattle.std.specs.Prelude.{◌+◌, ◌-◌, ◌*◌, ◌≤◌, length, Ok};
 ghost use Rattle.moves.specs.Slides.{Slid};
 ghost use Rattle.moves.specs.Tables.{Compressed};

@@ -1,4 +1,6 @@
 // A resize taken back, on the sheet's buffers.
+#![tactic(auto)]
+
 mod shapes;
 
 ghost use Rattle.std.specs.Prelude.{Ok};
