@@ -26,8 +26,8 @@ pub fn swap_rows<L: Layout, T: Copy>(
     i: u32,
     j: u32,
 ) -> Result<(), Refusal>
-    ensures answer { Checked (swap_rules (grid layout.now) i j (length buffer.old)) result }
-    ensures after { MatchResult result (λ _. RowsSwapped (grid layout.now) buffer.old buffer.new i j) (λ _. buffer.new ≡ buffer.old) }
+    ensures answer { Checked (swap_rules (L.grid layout.now) i j (length buffer.old)) result }
+    ensures after { MatchResult result (λ _. RowsSwapped (L.grid layout.now) buffer.old buffer.new i j) (λ _. buffer.new ≡ buffer.old) }
 {
     let (rows, columns) = layout.shape();
     if i >= rows || j >= rows {
@@ -51,8 +51,8 @@ pub fn swap_columns<L: Layout, T: Copy>(
     i: u32,
     j: u32,
 ) -> Result<(), Refusal>
-    ensures answer { Checked (swap_rules (turn (grid layout.now)) i j (length buffer.old)) result }
-    ensures after { MatchResult result (λ _. ColumnsSwapped (grid layout.now) buffer.old buffer.new i j) (λ _. buffer.new ≡ buffer.old) }
+    ensures answer { Checked (swap_rules (turn (L.grid layout.now)) i j (length buffer.old)) result }
+    ensures after { MatchResult result (λ _. ColumnsSwapped (L.grid layout.now) buffer.old buffer.new i j) (λ _. buffer.new ≡ buffer.old) }
 {
     let turned = Turned { layout };
     swap_rows(&turned, buffer, i, j)
@@ -60,8 +60,8 @@ pub fn swap_columns<L: Layout, T: Copy>(
 
 // Fills one column from a row on.
 fn fill_column_from<L: Layout, T: Copy>(layout: &L, buffer: &mut [T], v: T, row: u32, column: u32)
-    requires { (column < (grid layout.now).columns) × ((grid layout.now).span ≤ length buffer.old) }
-    ensures { Written (grid layout.now) buffer.old buffer.new (λ r c. (c ≡ column) × (row ≤ r)) (λ r c d. v) }
+    requires { (column < (L.grid layout.now).columns) × ((L.grid layout.now).span ≤ length buffer.old) }
+    ensures { Written (L.grid layout.now) buffer.old buffer.new (λ r c. (c ≡ column) × (row ≤ r)) (λ r c d. v) }
 {
     let (rows, _) = layout.shape();
     for r in row..rows {
@@ -77,8 +77,8 @@ pub fn fill_lower_triangle<L: Layout, T: Copy>(
     v: T,
     s: u32,
 ) -> Result<(), Refusal>
-    ensures answer { Checked (fill_rules (grid layout.now) (length buffer.old)) result }
-    ensures after { MatchResult result (λ _. LowerFilled (grid layout.now) buffer.old buffer.new v s) (λ _. buffer.new ≡ buffer.old) }
+    ensures answer { Checked (fill_rules (L.grid layout.now) (length buffer.old)) result }
+    ensures after { MatchResult result (λ _. LowerFilled (L.grid layout.now) buffer.old buffer.new v s) (λ _. buffer.new ≡ buffer.old) }
 {
     if layout.span() as usize > buffer.len() {
         return Err(Refusal::BufferTooShort);
@@ -98,8 +98,8 @@ pub fn fill_upper_triangle<L: Layout, T: Copy>(
     v: T,
     s: u32,
 ) -> Result<(), Refusal>
-    ensures answer { Checked (fill_rules (grid layout.now) (length buffer.old)) result }
-    ensures after { MatchResult result (λ _. UpperFilled (grid layout.now) buffer.old buffer.new v s) (λ _. buffer.new ≡ buffer.old) }
+    ensures answer { Checked (fill_rules (L.grid layout.now) (length buffer.old)) result }
+    ensures after { MatchResult result (λ _. UpperFilled (L.grid layout.now) buffer.old buffer.new v s) (λ _. buffer.new ≡ buffer.old) }
 {
     let turned = Turned { layout };
     fill_lower_triangle(&turned, buffer, v, s)
@@ -107,9 +107,9 @@ pub fn fill_upper_triangle<L: Layout, T: Copy>(
 
 // The cells of one column below the diagonal take what stands across it.
 fn copy_across<L: Layout, T: Copy>(layout: &L, buffer: &mut [T], column: u32)
-    requires shape { (column < (grid layout.now).columns) × ((grid layout.now).rows ≡ (grid layout.now).columns) }
-    requires fits { (grid layout.now).span ≤ length buffer.old }
-    ensures { Written (grid layout.now) buffer.old buffer.new (λ r c. (c ≡ column) × (column + 1 ≤ r)) (λ r c d. cell_of (grid layout.now) buffer.old c r d) }
+    requires shape { (column < (L.grid layout.now).columns) × ((L.grid layout.now).rows ≡ (L.grid layout.now).columns) }
+    requires fits { (L.grid layout.now).span ≤ length buffer.old }
+    ensures { Written (L.grid layout.now) buffer.old buffer.new (λ r c. (c ≡ column) × (column + 1 ≤ r)) (λ r c d. cell_of (L.grid layout.now) buffer.old c r d) }
 {
     let (rows, _) = layout.shape();
     for r in column + 1..rows {
@@ -124,8 +124,8 @@ pub fn fill_lower_triangle_with_upper_triangle<L: Layout, T: Copy>(
     layout: &L,
     buffer: &mut [T],
 ) -> Result<(), Refusal>
-    ensures answer { Checked (square_rules (grid layout.now) (length buffer.old)) result }
-    ensures after { MatchResult result (λ _. LowerCopied (grid layout.now) buffer.old buffer.new) (λ _. buffer.new ≡ buffer.old) }
+    ensures answer { Checked (square_rules (L.grid layout.now) (length buffer.old)) result }
+    ensures after { MatchResult result (λ _. LowerCopied (L.grid layout.now) buffer.old buffer.new) (λ _. buffer.new ≡ buffer.old) }
 {
     if layout.span() as usize > buffer.len() {
         return Err(Refusal::BufferTooShort);
@@ -145,8 +145,8 @@ pub fn fill_upper_triangle_with_lower_triangle<L: Layout, T: Copy>(
     layout: &L,
     buffer: &mut [T],
 ) -> Result<(), Refusal>
-    ensures answer { Checked (square_rules (grid layout.now) (length buffer.old)) result }
-    ensures after { MatchResult result (λ _. UpperCopied (grid layout.now) buffer.old buffer.new) (λ _. buffer.new ≡ buffer.old) }
+    ensures answer { Checked (square_rules (L.grid layout.now) (length buffer.old)) result }
+    ensures after { MatchResult result (λ _. UpperCopied (L.grid layout.now) buffer.old buffer.new) (λ _. buffer.new ≡ buffer.old) }
 {
     let turned = Turned { layout };
     fill_lower_triangle_with_upper_triangle(&turned, buffer)
@@ -169,10 +169,10 @@ fn copy_line<L: Layout, T: Copy>(
     to: Lines,
     k: usize,
 )
-    requires there { (line < (grid layout.now).rows) × ((grid layout.now).span ≤ length source.now) × (k < to.count) }
-    requires apart { Distinct (spread to (grid layout.now).columns) }
-    requires room { (c : ℕ) → c < (grid layout.now).columns → k * to.line_step + c * to.cell_step < length target.old }
-    ensures { Written (spread to (grid layout.now).columns) target.old target.new (λ i c. i ≡ k) (λ i c d. cell_of (grid layout.now) source.now line c d) }
+    requires there { (line < (L.grid layout.now).rows) × ((L.grid layout.now).span ≤ length source.now) × (k < to.count) }
+    requires apart { Distinct (spread to (L.grid layout.now).columns) }
+    requires room { (c : ℕ) → c < (L.grid layout.now).columns → k * to.line_step + c * to.cell_step < length target.old }
+    ensures { Written (spread to (L.grid layout.now).columns) target.old target.new (λ i c. i ≡ k) (λ i c d. cell_of (L.grid layout.now) source.now line c d) }
 {
     let (_, columns) = layout.shape();
     for c in 0..columns {
@@ -189,10 +189,10 @@ fn copy_lines<L: Layout, T: Copy>(
     target: &mut [T],
     to: Lines,
 )
-    requires there { Below list.now (grid layout.now).rows × ((grid layout.now).span ≤ length source.now) × (to.count ≡ length list.now) }
-    requires apart { Distinct (spread to (grid layout.now).columns) }
-    requires room { (k c : ℕ) → k < to.count → c < (grid layout.now).columns → k * to.line_step + c * to.cell_step < length target.old }
-    ensures { Written (spread to (grid layout.now).columns) target.old target.new (λ i c. i < to.count) (λ i c d. cell_of (grid layout.now) source.now (slice_index list.now i) c d) }
+    requires there { Below list.now (L.grid layout.now).rows × ((L.grid layout.now).span ≤ length source.now) × (to.count ≡ length list.now) }
+    requires apart { Distinct (spread to (L.grid layout.now).columns) }
+    requires room { (k c : ℕ) → k < to.count → c < (L.grid layout.now).columns → k * to.line_step + c * to.cell_step < length target.old }
+    ensures { Written (spread to (L.grid layout.now).columns) target.old target.new (λ i c. i < to.count) (λ i c d. cell_of (L.grid layout.now) source.now (slice_index list.now i) c d) }
 {
     for (k, line) in list.iter().enumerate() {
         copy_line(layout, source, *line, target, to, k);
@@ -206,7 +206,7 @@ fn ask_selection<L: Layout>(
     source: usize,
     target: usize,
 ) -> Result<(), Refusal>
-    ensures { Checked (select_rules (grid layout.now) list.now source target) result }
+    ensures { Checked (select_rules (L.grid layout.now) list.now source target) result }
 {
     let (rows, columns) = layout.shape();
     if !all_below(list, rows) {
@@ -232,8 +232,8 @@ pub fn select_rows<L: Layout, T: Copy>(
     list: &[u32],
     target: &mut [T],
 ) -> Result<(), Refusal>
-    ensures answer { Checked (select_rules (grid layout.now) list.now (length source.now) (length target.old)) result }
-    ensures after { MatchResult result (λ _. Cloned (selected_rows (grid layout.now) list.now) source.now target.old target.new (grid layout.now).columns) (λ _. target.new ≡ target.old) }
+    ensures answer { Checked (select_rules (L.grid layout.now) list.now (length source.now) (length target.old)) result }
+    ensures after { MatchResult result (λ _. Cloned (selected_rows (L.grid layout.now) list.now) source.now target.old target.new (L.grid layout.now).columns) (λ _. target.new ≡ target.old) }
 {
     let asked = ask_selection(layout, list, source.len(), target.len());
     if asked.is_err() {
@@ -256,8 +256,8 @@ pub fn select_columns<L: Layout, T: Copy>(
     list: &[u32],
     target: &mut [T],
 ) -> Result<(), Refusal>
-    ensures answer { Checked (select_rules (turn (grid layout.now)) list.now (length source.now) (length target.old)) result }
-    ensures after { MatchResult result (λ _. Cloned (selected_columns (grid layout.now) list.now) source.now target.old target.new (length list.now)) (λ _. target.new ≡ target.old) }
+    ensures answer { Checked (select_rules (turn (L.grid layout.now)) list.now (length source.now) (length target.old)) result }
+    ensures after { MatchResult result (λ _. Cloned (selected_columns (L.grid layout.now) list.now) source.now target.old target.new (length list.now)) (λ _. target.new ≡ target.old) }
 {
     let turned = Turned { layout };
     let asked = ask_selection(&turned, list, source.len(), target.len());

@@ -10,7 +10,7 @@ use super::vec_storage::Dense;
 
 // Reads a cell of a buffer; None outside the shape, or if the buffer ends before the span.
 pub fn get<L: Layout, T: Copy>(layout: &L, buffer: &[T], row: u32, column: u32) -> Option<T>
-    ensures { Read (grid layout.now) buffer.now row column result }
+    ensures { Read (L.grid layout.now) buffer.now row column result }
 {
     let (rows, columns) = layout.shape();
     if row < rows && column < columns && layout.span() as usize <= buffer.len() {

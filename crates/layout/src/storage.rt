@@ -35,9 +35,9 @@ fn clone_column<L: Layout, T: Copy>(
     rows: u32,
     column: u32,
 )
-    requires shape { (rows ≡ (grid layout.now).rows) × (column < (grid layout.now).columns) }
-    requires fits { ((grid layout.now).span ≤ length source.now) × (column * rows + rows ≤ length cells.old) }
-    ensures { ColumnCloned (grid layout.now) source.now cells.old cells.new column rows }
+    requires shape { (rows ≡ (L.grid layout.now).rows) × (column < (L.grid layout.now).columns) }
+    requires fits { ((L.grid layout.now).span ≤ length source.now) × (column * rows + rows ≤ length cells.old) }
+    ensures { ColumnCloned (L.grid layout.now) source.now cells.old cells.new column rows }
 {
     let first = column as usize * rows as usize;
     for r in 0..rows {
@@ -52,8 +52,8 @@ pub fn clone_owned<L: Layout, T: Copy>(
     source: &[T],
     cells: &mut [T],
 ) -> Result<(), Refusal>
-    ensures answer { Checked (clone_rules (grid layout.now) (length source.now) (length cells.old)) result }
-    ensures after { MatchResult result (λ _. Cloned (grid layout.now) source.now cells.old cells.new (grid layout.now).columns) (λ _. cells.new ≡ cells.old) }
+    ensures answer { Checked (clone_rules (L.grid layout.now) (length source.now) (length cells.old)) result }
+    ensures after { MatchResult result (λ _. Cloned (L.grid layout.now) source.now cells.old cells.new (L.grid layout.now).columns) (λ _. cells.new ≡ cells.old) }
 {
     let (rows, columns) = layout.shape();
     if rows as usize * columns as usize > cells.len() {

@@ -18,7 +18,7 @@ pub struct Sizes {
 
 // Questions 1, 3, 4 and 10, of a table in a source of so many cells, and of buffers of such sizes.
 pub(crate) fn ask_opening<L: Layout>(layout: &L, source: usize, sizes: Sizes) -> Result<(), Refusal>
-    ensures { Checked (opening_rules (grid layout.now) source (room sizes.cells sizes.entries sizes.runs sizes.saved)) result }
+    ensures { Checked (opening_rules (L.grid layout.now) source (room sizes.cells sizes.entries sizes.runs sizes.saved)) result }
 {
     if sizes.cells > 65536 || sizes.entries > 4096 || sizes.runs > 32768 || sizes.saved > 65536 {
         return Err(Refusal::BufferTooLarge);
@@ -38,8 +38,8 @@ pub(crate) fn ask_opening<L: Layout>(layout: &L, source: usize, sizes: Sizes) ->
 
 // Copies the table to the cells, with an empty journal.
 pub(crate) fn fill<L: Layout, T: Copy>(p: &mut Parts<'_, T>, layout: &L, source: &[T])
-    requires { ((grid layout.now).span ≤ length source.now) × ((grid layout.now).rows * (grid layout.now).columns ≤ length p.old.cells.now) }
-    ensures { Filled (grid layout.now) source.now p.old p.new }
+    requires { ((L.grid layout.now).span ≤ length source.now) × ((L.grid layout.now).rows * (L.grid layout.now).columns ≤ length p.old.cells.now) }
+    ensures { Filled (L.grid layout.now) source.now p.old p.new }
 {
     let (rows, columns) = layout.shape();
     // There is room, so this is not refused.
@@ -59,8 +59,8 @@ pub(crate) fn refill<L: Layout, T: Copy>(
     layout: &L,
     source: &[T],
 ) -> Result<(), Refusal>
-    ensures which { Checked (opening_rules (grid layout.now) (length source.now) (room_of p.old)) result }
-    ensures state { MatchResult result (λ _. Filled (grid layout.now) source.now p.old p.new) (λ _. p.new ≡ p.old) }
+    ensures which { Checked (opening_rules (L.grid layout.now) (length source.now) (room_of p.old)) result }
+    ensures state { MatchResult result (λ _. Filled (L.grid layout.now) source.now p.old p.new) (λ _. p.new ≡ p.old) }
 {
     let cells = p.cells.len();
     let entries = p.entries.len();

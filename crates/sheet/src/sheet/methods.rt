@@ -23,7 +23,7 @@ impl<'a, T: Copy> Sheet<'a, T> {
         runs: &[Run],
         saved: &[T],
     ) -> Result<(), Refusal>
-        ensures { Checked (opening_rules (grid layout.now) (length source.now) (room_in cells.now entries.now runs.now saved.now)) result }
+        ensures { Checked (opening_rules (L.grid layout.now) (length source.now) (room_in cells.now entries.now runs.now saved.now)) result }
     {
         let sizes = Sizes {
             cells: cells.len(),
@@ -43,8 +43,8 @@ impl<'a, T: Copy> Sheet<'a, T> {
         runs: &'a mut [Run],
         saved: &'a mut [T],
     ) -> Sheet<'a, T>
-        ensures made { Passes (opening_rules (grid layout.now) (length source.now) (room_in cells.old entries.old runs.old saved.old)) → view result.parts ≡ opened (table_in (grid layout.now) source.now) (room_in cells.old entries.old runs.old saved.old) }
-        ensures refused { (Passes (opening_rules (grid layout.now) (length source.now) (room_in cells.old entries.old runs.old saved.old)) → ⊥) → view result.parts ≡ opened no_table (room 0 0 0 0) }
+        ensures made { Passes (opening_rules (L.grid layout.now) (length source.now) (room_in cells.old entries.old runs.old saved.old)) → view result.parts ≡ opened (table_in (L.grid layout.now) source.now) (room_in cells.old entries.old runs.old saved.old) }
+        ensures refused { (Passes (opening_rules (L.grid layout.now) (length source.now) (room_in cells.old entries.old runs.old saved.old)) → ⊥) → view result.parts ≡ opened no_table (room 0 0 0 0) }
     {
         if Sheet::check(layout, source, cells, entries, runs, saved).is_err() {
             return Sheet::empty(cells, entries, runs, saved);
@@ -97,8 +97,8 @@ impl<'a, T: Copy> Sheet<'a, T> {
 
     // Opens another table over the same buffers, by the same questions; a refusal leaves the sheet as it was.
     pub fn reopen<L: Layout>(&mut self, layout: &L, source: &[T]) -> Result<(), Refusal>
-        ensures which { Checked (opening_rules (grid layout.now) (length source.now) (room_of self.old.parts)) result }
-        ensures state { MatchResult result (λ _. view self.new.parts ≡ opened (table_in (grid layout.now) source.now) (room_of self.old.parts)) (λ _. self.new.parts ≡ self.old.parts) }
+        ensures which { Checked (opening_rules (L.grid layout.now) (length source.now) (room_of self.old.parts)) result }
+        ensures state { MatchResult result (λ _. view self.new.parts ≡ opened (table_in (L.grid layout.now) source.now) (room_of self.old.parts)) (λ _. self.new.parts ≡ self.old.parts) }
     {
         opening::refill(&mut self.parts, layout, source)
     }

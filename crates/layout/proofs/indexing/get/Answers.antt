@@ -1,6 +1,7 @@
 use Rattle.std.proofs.Common.{◌≡◌, ℕ, ◌<◌, List, length, get_or, sym, ap, ◌∙◌, arith}
 use Rattle.std.proofs.lemmas.List.{get_or_read}
 use Rattle.layout.proofs.indexing.get.Given as given
+use Rattle.layout.proofs.indexing.get.Goals.{After-place}
 use Rattle.layout.proofs.indexing.get.Goals as goal
 
 -- what is read at p, where p is the place q
@@ -8,13 +9,13 @@ read_at : {T : Type 0} (xs : List T) (p q : ℕ) (x d : T) → p ≡ q → p < l
 read_at xs p q x d e h is = ap (λ k. get_or xs k d) (sym e) ∙ sym (get_or_read xs p x h is d)
 
 -- the place lies within the buffer
-reached : (g : given.Over) (c : goal.After-place g) → c.place.result < length c.args.buffer.now
+reached : (g : given.Over) (c : After-place g) → c.place.result < length c.args.buffer.now
 reached g c =
     let w = (g.L.Layout.lawful c.args.layout.now).within c.args.row c.args.column (omega arith) (omega arith) in
     omega (arith, c.place.ensures.inside (omega arith) (omega arith))
 
-pub offset-bounds-buffer-place : goal.offset-bounds-buffer-place
-offset-bounds-buffer-place g c = omega (arith, reached g c)
+pub offset_bounds-buffer-place : goal.offset_bounds-buffer-place
+offset_bounds-buffer-place g c = omega (arith, reached g c)
 
 pub bounds-buffer-place : goal.bounds-buffer-place
 bounds-buffer-place g c = reached g c

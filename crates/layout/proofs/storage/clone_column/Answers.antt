@@ -1,19 +1,20 @@
 use Rattle.std.proofs.Common.{◌≡◌, ◌+◌, ◌*◌, ◌<◌, length, sym, ap, ◌∙◌, arith}
 use Rattle.layout.proofs.Cloning.{column_none, column_more}
 use Rattle.layout.proofs.storage.clone_column.Given as given
+use Rattle.layout.proofs.storage.clone_column.Goals.{After-place-place}
 use Rattle.layout.proofs.storage.clone_column.Goals as goal
 
 pub loop-r-init : goal.loop-r-init
 loop-r-init g c = column_none _ _ _ c.args.cells.now c.args.column
 
 -- the place lies within the source
-reached : (g : given.Over) (c : goal.After-place-place g) → c.place-place.result < length c.args.source.now
+reached : (g : given.Over) (c : After-place-place g) → c.place-place.result < length c.args.source.now
 reached g c =
     let w = (g.L.Layout.lawful c.args.layout.now).within c.loop-r.r c.args.column (omega arith) (omega arith) in
     omega (arith, c.place-place.ensures.inside (omega arith) (omega arith))
 
-pub offset-bounds-source-place : goal.offset-bounds-source-place
-offset-bounds-source-place g c = omega (arith, reached g c)
+pub offset_bounds-source-place : goal.offset_bounds-source-place
+offset_bounds-source-place g c = omega (arith, reached g c)
 
 pub bounds-source-place : goal.bounds-source-place
 bounds-source-place g c = reached g c

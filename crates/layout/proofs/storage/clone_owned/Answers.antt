@@ -6,8 +6,8 @@ use Rattle.layout.proofs.storage.clone_owned.Goals as goal
 pub loop-c-init : goal.loop-c-init
 loop-c-init g c = cloned_none _ _ _ c.args.cells.now
 
-pub clone-column-requires : goal.clone-column-requires
-clone-column-requires g c =
+pub clone_column-requires : goal.clone_column-requires
+clone_column-requires g c =
     let grid = g.L.Layout.grid c.args.layout.now in
     let shape = c.shape-rows.ensures in
     let there : c.loop-c.c < grid.columns = omega arith in
@@ -21,8 +21,8 @@ clone-column-requires g c =
 pub loop-c-preserved : goal.loop-c-preserved
 loop-c-preserved g c =
     let grid = g.L.Layout.grid c.args.layout.now in
-    cloned_more grid c.args.source.now c.args.cells.now c.loop-c.cells c.clone-column.new.cells c.loop-c.c c.loop-c.invariant
-    (subst (ColumnCloned grid c.args.source.now c.loop-c.cells c.clone-column.new.cells c.loop-c.c) c.shape-rows.ensures.0 c.clone-column.ensures)
+    cloned_more grid c.args.source.now c.args.cells.now c.loop-c.cells c.clone_column.new.cells c.loop-c.c c.loop-c.invariant
+    (subst (ColumnCloned grid c.args.source.now c.loop-c.cells c.clone_column.new.cells c.loop-c.c) c.shape-rows.ensures.0 c.clone_column.ensures)
 
 pub returns : goal.returns
 returns g c =
