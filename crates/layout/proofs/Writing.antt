@@ -1,7 +1,7 @@
 -- Writing through a layout, cell by cell and part by part.
 use Rattle.std.proofs.Common.{◌≡◌, ℕ, ◌<◌, ◌⊎◌, List, length, get_or, set, sym, refl, ap, ◌∙◌, inl, inr, length-set, get_or-set_other, get_or-set_same}
 use Rattle.layout.specs.Lawful.{Grid, Distinct}
-use Rattle.layout.specs.Written.{NoCell, Written, cell_of}
+use Rattle.layout.specs.Written.{Written}
 
 module _ {T : Type 0} (grid : Grid) where
   pub nothing_written : (was : List T) (at : ℕ → ℕ → Type 0) (cell : ℕ → ℕ → T → T)

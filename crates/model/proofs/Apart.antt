@@ -1,15 +1,14 @@
 -- No line comes twice.
-use Rattle.std.proofs.Common.{◌≡◌, ℕ, zero, suc, ◌+◌, ◌-◌, ◌<◌, ◌≤◌, Bool, true, false, cond, not, ◌&&◌, eqb, ltb, leb, ◌≢◌, List, [], ◌∷◌, ◌++◌, map, length, get_or, filter, sym, refl, ap, ◌∙◌, subst, ap₂, arith}
+use Rattle.std.proofs.Common.{◌≡◌, ℕ, zero, suc, ◌+◌, ◌-◌, ◌<◌, ◌≤◌, Bool, true, false, cond, not, eqb, ltb, ◌≢◌, List, [], ◌∷◌, map, length, get_or, filter, sym, refl, ap, ◌∙◌, ap₂, arith}
 use Rattle.std.specs.List.{range_with_len, AllByRecursion as All}
 use Rattle.std.proofs.lemmas.List.{get_or-map, length-map}
 use Rattle.std.proofs.lemmas.List.FromFn.{get_or-map-range_with_len, length-map-range_with_len}
 use Rattle.std.proofs.ByRecursion.{All-get_or, all_kept_by}
-use Rattle.std.proofs.lemmas.Bool.{eqb-true, eqb-false, ltb-true, ltb-false, le-ltb, cond_both, cond-false, eq-eqb, ne_eqb, and_parts, and_from}
+use Rattle.std.proofs.lemmas.Bool.{eqb-true, ltb-false, le-ltb, cond_both, cond-false, eq-eqb, and_parts, and_from}
 use Rattle.model.specs.Sheet.{Origin, old, new, number, Edit, keep, insert, remove, remove_at, swap, resize, within, listed, inserted, swapped, sized, others, origins}
 use Rattle.model.specs.Journal.{place}
-use Rattle.model.specs.Provenance.{same, at, line, descent}
+use Rattle.model.specs.Provenance.{same, at, line}
 use Rattle.model.proofs.Grids.{all_counting, place_found}
-use Rattle.model.proofs.Edits.{Fits}
 
 abbrev pub Apart : {X : Type 0} → List X → Type 0
 Apart {X} xs = (i j : ℕ) (d : X) → i < length xs → j < length xs → get_or xs i d ≡ get_or xs j d → i ≡ j

@@ -1,16 +1,16 @@
 -- Every cell by its lines.
-use Rattle.std.proofs.Common.{◌≡◌, ℕ, zero, suc, ◌+◌, ◌-◌, ◌*◌, ◌<◌, ◌≤◌, max, Bool, true, false, cond, not, ◌&&◌, eqb, ltb, leb, ◌≢◌, ◌⊎◌, List, [], ◌∷◌, ◌++◌, map, length, get_or, sym, refl, ap, ◌∙◌, subst, ap₂, inl, inr, arith, length-append}
+use Rattle.std.proofs.Common.{◌≡◌, ℕ, suc, ◌+◌, ◌-◌, ◌*◌, ◌<◌, ◌≤◌, max, true, cond, eqb, ltb, ◌⊎◌, List, [], ◌∷◌, ◌++◌, map, length, get_or, sym, refl, ap, ◌∙◌, subst, ap₂, inl, inr, arith, length-append}
 use Rattle.std.specs.List.{range_with_len, AllByRecursion as All}
 use Rattle.std.proofs.lemmas.List.{get_or-map, length-map}
 use Rattle.std.proofs.lemmas.List.FromFn.{get_or-map-range_with_len, length-map-range_with_len}
 use Rattle.std.proofs.ByRecursion.{All-get_or, All-map, All-weaker}
-use Rattle.std.proofs.lemmas.Bool.{ltb-true, ltb-false, cond_both, and_parts, eq-eqb, ne_eqb}
-use Rattle.model.specs.Sheet.{Origin, old, new, number, Edit, inserted, origins, named, Side, row, column, Change, insert_lines, remove_lines, remove_listed, swap_lines, fill_lines, resize_to, edit, made, Table, cell_at, cell_of, rows_of, columns_of, changed}
-use Rattle.model.specs.Journal.{Room, Call, change, undo, settle, Sheet, Right, named_in, after, step, opened}
+use Rattle.std.proofs.lemmas.Bool.{cond_both, and_parts, eq-eqb, ne_eqb}
+use Rattle.model.specs.Sheet.{Origin, old, new, number, inserted, origins, named, Side, row, column, Change, insert_lines, remove_lines, remove_listed, swap_lines, fill_lines, resize_to, edit, made, Table, cell_at, cell_of, changed}
+use Rattle.model.specs.Journal.{Room, Call, change, undo, settle, Sheet, Right, named_in}
 use Rattle.model.specs.History.{remains, final}
 use Rattle.model.specs.Provenance.{changes_of, left, descent, descents, row_descents, column_descents, line, at, puts, Told, Cells}
 use Rattle.model.proofs.Grids.{all_counting}
-use Rattle.model.proofs.Edits.{Makes, Fits, fits}
+use Rattle.model.proofs.Edits.{Fits, fits}
 use Rattle.model.proofs.Undo.{right_changed, changed_at}
 use Rattle.model.proofs.Replays.{reach, Accepts, accepted_there, accepted_after, all_come}
 use Rattle.model.proofs.Apart.{Apart, apart_origins, at_line}

@@ -1,10 +1,10 @@
 -- What the proofs know of each edit.
-use Rattle.std.proofs.Common.{◌≡◌, ℕ, zero, suc, ◌+◌, ◌-◌, ◌*◌, ◌<◌, ◌≤◌, Bool, true, false, cond, not, ◌&&◌, ◌||◌, eqb, ltb, leb, ◌≢◌, ◌⊎◌, List, [], ◌∷◌, ◌++◌, map, length, get_or, take, drop, filter, sym, refl, ap, ◌∙◌, subst, ap₂, inl, inr, append-nil, arith}
-use Rattle.std.specs.List.{range_with_len, flat_map, AllByRecursion as All}
+use Rattle.std.proofs.Common.{◌≡◌, ℕ, zero, suc, ◌+◌, ◌-◌, ◌<◌, ◌≤◌, Bool, true, false, cond, not, ◌||◌, eqb, ltb, ◌≢◌, ◌⊎◌, List, [], ◌∷◌, ◌++◌, map, filter, sym, refl, ap, ◌∙◌, ap₂, inl, inr, append-nil, arith}
+use Rattle.std.specs.List.{range_with_len, AllByRecursion as All}
 use Rattle.std.proofs.ByRecursion.{All-map, all_kept_by}
-use Rattle.std.proofs.lemmas.Bool.{eqb-true, eqb-false, ltb-true, ltb-false, leb-true, cond_both, and_parts, eq-eqb, ne_eqb, le-leb, lt-ltb, both_ways, or_right}
-use Rattle.model.specs.Sheet.{Origin, old, new, Edit, keep, insert, remove, remove_at, swap, resize, within, listed, inserted, swapped, sized, others, origins, named, Side, row, column, Change, insert_lines, remove_lines, remove_listed, swap_lines, fill_lines, resize_to, edit, made, Table, rows_of, columns_of}
-use Rattle.model.specs.Journal.{begun, runs_from, lines_of, removed, note_of, recalled, runs_of}
+use Rattle.std.proofs.lemmas.Bool.{eqb-true, eqb-false, ltb-true, ltb-false, leb-true, cond_both, and_parts, ne_eqb, both_ways, or_right}
+use Rattle.model.specs.Sheet.{Origin, old, new, Edit, keep, insert, remove, remove_at, swap, resize, within, listed, inserted, swapped, sized, others, origins, named, row, column, Change, insert_lines, remove_lines, remove_listed, swap_lines, fill_lines, resize_to, edit, made, Table, rows_of, columns_of}
+use Rattle.model.specs.Journal.{begun, runs_from, lines_of, note_of, recalled, runs_of}
 use Rattle.model.proofs.Grids.{all_counting, Single}
 
 -- an old line was there, and new lines come only of an insertion or a resize

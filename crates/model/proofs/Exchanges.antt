@@ -1,12 +1,11 @@
 -- Two lines change places: where each line stands, and the exchange in numbers.
-use Rattle.std.proofs.Common.{◌≡◌, ℕ, ◌+◌, ◌*◌, ◌<◌, ◌≤◌, Bool, true, false, cond, ◌&&◌, eqb, ltb, ◌≢◌, ◌⊎◌, List, [], map, length, get_or, take, drop, sym, refl, ap, ◌∙◌, ap₂, inl, inr, arith}
-use Rattle.std.specs.List.{range_with_len}
+use Rattle.std.proofs.Common.{◌≡◌, ℕ, ◌+◌, ◌*◌, ◌<◌, ◌≤◌, true, cond, ◌&&◌, eqb, ltb, ◌≢◌, ◌⊎◌, List, [], length, get_or, take, sym, refl, ap, ◌∙◌, inl, inr, arith}
 use Rattle.std.proofs.lemmas.Nat.{mul-add-lt}
 use Rattle.std.proofs.lemmas.List.FromFn.{length-map-range_with_len, get_or-map-range_with_len}
 use Rattle.std.proofs.lemmas.Bool.{and_from, cases_eq, cond-true, cond-false, eq-eqb, ne_eqb, lt-ltb}
-use Rattle.model.specs.Sheet.{Origin, old, new, swap, swapped, origins, Side, row, column, Change, swap_lines, Table, rows_of, columns_of, changed}
-use Rattle.model.specs.Journal.{Right, survives, lost_of, named_in}
-use Rattle.model.proofs.Lines.{keep_at, keep_length, keep_stays, stays_at}
+use Rattle.model.specs.Sheet.{Origin, old, new, swap, swapped, origins, row, column, Change, swap_lines, Table, rows_of, columns_of, changed}
+use Rattle.model.specs.Journal.{Right, survives, lost_of}
+use Rattle.model.proofs.Lines.{keep_length, keep_stays, stays_at}
 use Rattle.model.proofs.Joins.{changed_cells, old_cell, lying}
 use Rattle.model.proofs.Counting.{Counts, none_lost}
 

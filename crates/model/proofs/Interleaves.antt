@@ -4,10 +4,9 @@ use mathlib.Core.Path.{fun_ext}
 use Rattle.std.specs.List.{range_with_len}
 use Rattle.std.proofs.lemmas.List.{length-map}
 use Rattle.std.proofs.lemmas.List.FromFn.{fill_by_all}
-use Rattle.model.specs.Sheet.{Origin, old, new, Edit, keep, insert, remove, remove_at, swap, resize, origins, Side, row, column, Change, insert_lines, remove_lines, remove_listed, swap_lines, fill_lines, resize_to, on, edit, Table, cell_at}
-use Rattle.model.specs.Journal.{Room, Call, Right}
+use Rattle.model.specs.Sheet.{Origin, old, new, Edit, keep, insert, remove, remove_at, swap, origins, Side, row, column, Change, insert_lines, remove_lines, remove_listed, swap_lines, fill_lines, resize_to, on, edit}
 use Rattle.model.specs.History.{final}
-use Rattle.model.specs.Provenance.{left, descent, descents, row_descents, column_descents, line, Told, mine, call_on, calls_on, Alike, Interleaved}
+use Rattle.model.specs.Provenance.{left, descent, descents, line, Told, mine, call_on, calls_on, Interleaved}
 use Rattle.model.proofs.Descents.{cells}
 
 map_map : {X Y Z : Type 0} (g : Y → Z) (f : X → Y) (xs : List X) → map g (map f xs) ≡ map (λ x. g (f x)) xs

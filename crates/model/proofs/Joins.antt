@@ -1,12 +1,10 @@
 -- From cells, place by place, to the lists of the model. The buffer's places are written as the moves have them.
-use Rattle.std.proofs.Common.{◌≡◌, ℕ, zero, suc, ◌+◌, ◌-◌, ◌*◌, ◌<◌, ◌≤◌, Bool, true, false, cond, not, ◌&&◌, List, [], ◌∷◌, ◌++◌, map, length, get_or, take, drop, filter, sym, refl, ap, ◌∙◌, ap₂, append-nil, arith, length-take}
-use Rattle.std.specs.List.{range_with_len, flat_map, AllByRecursion as All}
+use Rattle.std.proofs.Common.{◌≡◌, ℕ, ◌+◌, ◌-◌, ◌*◌, ◌<◌, ◌≤◌, true, List, [], ◌∷◌, ◌++◌, length, get_or, take, drop, sym, refl, ap, ◌∙◌, ap₂, arith, length-take}
+use Rattle.std.specs.List.{flat_map, AllByRecursion as All}
 use Rattle.std.proofs.lemmas.List.{take-take, drop-take, drop_more, length-take-le, same_lists, get_or-take}
-use Rattle.std.proofs.lemmas.List.FromFn.{length-range_with_len, get_or-range_with_len}
 use Rattle.std.proofs.lemmas.Nat.{mul-add-lt}
-use Rattle.std.proofs.lemmas.Bool.{and_from, and_left, and_right}
-use Rattle.model.specs.Sheet.{Origin, old, new, Change, Table, cell_at, cell_of, pairs, rows_of, columns_of, changed}
-use Rattle.model.specs.Journal.{Right, places, survives, stays, lost_of, named_in}
+use Rattle.model.specs.Sheet.{old, new, Change, Table, cell_at, cell_of, rows_of, columns_of, changed}
+use Rattle.model.specs.Journal.{Right, places, named_in}
 use Rattle.model.proofs.Grids.{table_back, all_places, take_then}
 use Rattle.model.proofs.Undo.{right_changed, changed_at}
 

@@ -1,14 +1,14 @@
 -- One more call, and what every reachable sheet keeps to.
-use Rattle.std.proofs.Common.{◌≡◌, ℕ, zero, suc, ◌+◌, ◌*◌, ◌<◌, ◌≤◌, Bool, true, false, cond, ◌&&◌, ltb, leb, List, [], ◌∷◌, ◌++◌, length, drop, sym, refl, ap, ◌∙◌, subst, arith, length-append}
+use Rattle.std.proofs.Common.{◌≡◌, ℕ, ◌+◌, ◌*◌, Bool, true, false, cond, ◌&&◌, ltb, leb, List, [], ◌∷◌, ◌++◌, length, drop, sym, refl, ap, ◌∙◌, subst, arith, length-append}
 use mathlib.Core.Logic.{∥∥₁_elim, ∥∥₁_map}
 use native.Mathlib.Nat.{ℕ_set}
 use native.Mathlib.Bridge.{le_prop}
 use Rattle.std.proofs.lemmas.Bool.{and_parts, leb-true, ltb-true}
-use Rattle.model.specs.Sheet.{Change, Table, changed, rows_of, columns_of}
-use Rattle.model.specs.Journal.{Sheet, Room, Entry, Answer, done, refused, Call, change, undo, settle, first_no, tests, verdict, after, entry_of, before, taken_back, step, run, opened, Right, runs_of, lost_of, has_column, named_in}
-use Rattle.model.specs.History.{final, remains}
+use Rattle.model.specs.Sheet.{Change, Table, rows_of, columns_of}
+use Rattle.model.specs.Journal.{Sheet, Room, Entry, done, Call, change, undo, settle, first_no, tests, verdict, after, before, taken_back, step, opened, runs_of, lost_of, has_column, named_in}
+use Rattle.model.specs.History.{remains}
 use Rattle.model.specs.Reached.{Within, Reached, Reachable, Bounds, Newest}
-use Rattle.model.proofs.Replays.{first_passed, accepted, accepted_there, accepted_after, reach, Accepts, right_reach, all_come, run_more}
+use Rattle.model.proofs.Replays.{first_passed, accepted, accepted_after, reach, Accepts, all_come, run_more}
 use Rattle.model.proofs.Undo.{right_changed, undo_after}
 
 pub opened_reached : {A : Type 0} (t : Table A) (room : Room) → Within t room → Reachable (opened t room)

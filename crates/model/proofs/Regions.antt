@@ -1,10 +1,9 @@
 -- Any rectangle of a table as a table of its own, and the cells lost where rows or columns go.
-use Rattle.std.proofs.Common.{◌≡◌, ℕ, zero, suc, ◌+◌, ◌-◌, ◌*◌, ◌<◌, ◌≤◌, Bool, true, false, cond, not, ◌&&◌, leb, List, [], ◌∷◌, ◌++◌, map, length, get_or, take, drop, filter, sym, refl, ap, ◌∙◌, ap₂, mul_comm, arith}
+use Rattle.std.proofs.Common.{◌≡◌, ℕ, ◌+◌, ◌*◌, ◌<◌, ◌≤◌, Bool, true, false, cond, not, ◌&&◌, List, [], ◌∷◌, ◌++◌, take, drop, filter, sym, refl, ap, ◌∙◌, ap₂, arith}
 use Rattle.std.specs.List.{range_with_len, flat_map, AllByRecursion as All}
 use Rattle.std.proofs.lemmas.List.FromFn.{length-range_with_len, get_or-range_with_len}
-use Rattle.std.proofs.lemmas.Bool.{le-leb}
-use Rattle.model.specs.Sheet.{Origin, old, new, Side, row, column, within, Change, remove_lines, Table, cell_at, pairs, rows_of, columns_of, changed}
-use Rattle.model.specs.Journal.{Right, places, survives, stays, runs_of, lost_of, named_in}
+use Rattle.model.specs.Sheet.{Change, Table, cell_at, pairs, rows_of, columns_of}
+use Rattle.model.specs.Journal.{Right, survives, stays, lost_of}
 use Rattle.model.proofs.Grids.{Single, Singles, one_column, length_grid, grid_at, single_cell, all_counting}
 
 -- the m rows at i of the n columns at j: of a removal of rows j is 0 and n all columns, of a removal of columns i is 0 and m all rows

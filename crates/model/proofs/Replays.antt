@@ -1,10 +1,9 @@
 -- The remaining calls alone lead to the same sheet.
-use Rattle.std.proofs.Common.{◌≡◌, ℕ, zero, suc, Bool, true, false, cond, List, [], ◌∷◌, ◌++◌, map, reverse, length, drop, replicate, sym, refl, ap, ◌∙◌, subst, ap₂}
+use Rattle.std.proofs.Common.{◌≡◌, ℕ, zero, suc, Bool, true, false, List, [], ◌∷◌, ◌++◌, reverse, length, drop, replicate, sym, refl, ap, ◌∙◌, subst}
 use mathlib.Core.List.{reverse-cons}
-use Rattle.std.proofs.lemmas.Bool.{both_ways}
-use Rattle.model.specs.Sheet.{Change, Table, changed}
-use Rattle.model.specs.Journal.{Sheet, Room, Entry, Answer, done, refused, Call, change, undo, settle, first_no, tests, verdict, named_in, unless, taken_back, after, before, entry_of, settled, step, run, opened, Right}
-use Rattle.model.specs.History.{entered, remaining, remains, final, TakesBack, Replayed, Replay}
+use Rattle.model.specs.Sheet.{Change, Table}
+use Rattle.model.specs.Journal.{Sheet, Room, Answer, done, refused, Call, change, undo, settle, first_no, tests, verdict, named_in, unless, after, step, run, opened, Right}
+use Rattle.model.specs.History.{entered, remaining, remains, final, TakesBack, Replay}
 use Rattle.model.proofs.Undo.{right_changed, undo_after}
 
 abbrev is_done : Answer → Type 0

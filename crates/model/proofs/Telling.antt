@@ -1,18 +1,18 @@
 -- The sentences hold of the one definition of a changed table.
-use Rattle.std.proofs.Common.{◌≡◌, ℕ, zero, suc, ◌+◌, ◌-◌, ◌*◌, ◌<◌, ◌≤◌, Bool, true, false, cond, ◌&&◌, eqb, ltb, List, [], ◌∷◌, length, get_or, sym, refl, ap, ◌∙◌, subst, ap₂, inl, inr, append-nil, arith}
+use Rattle.std.proofs.Common.{◌≡◌, ℕ, zero, suc, ◌+◌, ◌-◌, ◌<◌, ◌≤◌, Bool, true, false, cond, ◌&&◌, eqb, ltb, List, [], ◌∷◌, length, get_or, sym, refl, ap, ◌∙◌, subst, ap₂, inl, inr, append-nil, arith}
 use Rattle.std.proofs.lemmas.List.{get_or-map, length-map}
 use Rattle.std.proofs.lemmas.Bool.{cases_eq, cases_lt, cond-false, cond-true, eq-eqb, le-ltb, lt-ltb, ne_eqb}
-use Rattle.model.specs.Sheet.{Origin, old, new, keep, insert, resize, swap, listed, origins, others, Side, row, column, Change, insert_lines, remove_lines, remove_listed, swap_lines, fill_lines, resize_to, Table, cell_at, cell_of, rows_of, columns_of, changed}
-use Rattle.model.specs.Journal.{Right, begun, lines_of, lost_of, named_in, places, runs_from, runs_of, stays, survives}
-use Rattle.model.specs.Sentences.{lines, across, at, Inserts, Inserting, counted, Gapping, Removes, Removing, staying, Spaced, RemovesListed, RemovingListed, Exchanges, Exchanging, Resizes, Resizing}
+use Rattle.model.specs.Sheet.{Origin, old, new, keep, insert, resize, swap, listed, origins, others, row, column, Change, insert_lines, remove_lines, remove_listed, swap_lines, fill_lines, resize_to, Table, cell_at, cell_of, rows_of, columns_of, changed}
+use Rattle.model.specs.Journal.{Right, begun, lines_of, named_in, places, runs_from, runs_of, stays, survives}
+use Rattle.model.specs.Sentences.{at, Inserts, Inserting, counted, Gapping, Removing, staying, Spaced, RemovingListed, Exchanging, Resizing}
 use Rattle.model.proofs.Edits.{lines_runs}
 use Rattle.model.proofs.Grids.{all_places}
 use Rattle.model.proofs.Joins.{joined_same}
 use Rattle.model.proofs.Regions.{lost_columns, lost_rows}
 use Rattle.model.proofs.Resized.{resize_goes, resize_new, resize_old, resize_stays, resized}
 use Rattle.model.proofs.Undo.{changed_at}
-use Rattle.model.proofs.Lines.{keep_at, keep_length, insert_length, insert_upper, insert_new, insert_lower, insert_stays, keep_stays, others_stays, remove_length, remove_upper, remove_lower}
-use Rattle.model.proofs.Counting.{Counts, columns_inserted, columns_removed, columns_removed_lost, none_lost, rows_inserted, rows_removed, rows_removed_lost}
+use Rattle.model.proofs.Lines.{keep_at, keep_length, insert_length, insert_upper, insert_new, insert_lower, insert_stays, keep_stays, others_stays, remove_upper, remove_lower}
+use Rattle.model.proofs.Counting.{columns_inserted, columns_removed, columns_removed_lost, none_lost, rows_inserted, rows_removed, rows_removed_lost}
 use Rattle.model.proofs.Exchanges.{columns_exchanged, columns_exchanged_lost, rows_exchanged, rows_exchanged_lost, swap_at, swapped_first, swapped_other, swapped_second}
 
 -- a cell of the changed table by what its row and its column come from

@@ -1,13 +1,13 @@
 -- An undo takes back the change before it.
-use Rattle.std.proofs.Common.{◌≡◌, ℕ, zero, suc, ◌+◌, ◌-◌, ◌*◌, ◌<◌, ◌≤◌, Bool, true, false, cond, ◌&&◌, eqb, ltb, leb, ◌⊎◌, List, [], ◌∷◌, ◌++◌, map, length, get_or, take, drop, sym, refl, ap, ◌∙◌, subst, ap₂, inl, inr, arith, length-append}
-use Rattle.std.specs.List.{flat_map, AllByRecursion as All}
+use Rattle.std.proofs.Common.{◌≡◌, ℕ, ◌<◌, true, false, List, ◌++◌, length, get_or, take, drop, refl, ap, ◌∙◌, ap₂, inl, inr, arith, length-append}
+use Rattle.std.specs.List.{AllByRecursion as All}
 use Rattle.std.proofs.lemmas.List.{take_at, drop_at}
 use Rattle.std.proofs.ByRecursion.{All-weaker}
 use Rattle.std.proofs.lemmas.Bool.{eqb-true, ltb-true, and_parts, both_ways}
-use Rattle.model.specs.Sheet.{Origin, old, new, Side, row, column, Change, edit, made, named, Table, cell_at, cell_of, pairs, rows_of, columns_of, changed, origins}
-use Rattle.model.specs.Journal.{place, is_old, stands, survives, stays, note_of, recalled, places, restored, all_but, runs_of, lost_of, entry_of, Sheet, Entry, after, before, Right, named_in}
+use Rattle.model.specs.Sheet.{Origin, old, new, row, column, Change, edit, named, Table, cell_at, cell_of, rows_of, columns_of, changed, origins}
+use Rattle.model.specs.Journal.{is_old, stands, survives, stays, note_of, recalled, places, restored, all_but, runs_of, lost_of, entry_of, Sheet, after, before, Right, named_in}
 use Rattle.model.proofs.Grids.{Single, Singles, grid_at, length_grid, table_back, single_cell, all_places, restores, place_found}
-use Rattle.model.proofs.Edits.{Makes, Fits, fits, made_single, recall_rows, recall_columns}
+use Rattle.model.proofs.Edits.{Fits, fits, made_single, recall_rows, recall_columns}
 
 module _ {A : Type 0} (t : Table A) (ch : Change A) (right : Right t) (there : named_in t ch ≡ true) where
   fit_rows : All (Fits (edit row ch) t.rows) (rows_of t ch)

@@ -1,7 +1,7 @@
 -- A sheet that some opening within the limits, and some calls, lead to.
-use Rattle.std.specs.Prelude.{◌≡◌, ℕ, ◌*◌, ◌≤◌, List, [], ◌∷◌, length}
+use Rattle.std.specs.Prelude.{◌≡◌, ◌*◌, ◌≤◌, List, length}
 use Rattle.model.specs.Sheet.{Table, Change}
-use Rattle.model.specs.Journal.{Sheet, Room, Entry, Right, Call, change, undo, settle, Answer, done, verdict, after}
+use Rattle.model.specs.Journal.{Sheet, Room, Right, Call, done, verdict, after}
 use Rattle.model.specs.History.{final}
 
 pub record Within {A : Type 0} (t : Table A) (room : Room) : Type 0 where

@@ -1,4 +1,4 @@
-use Rattle.std.proofs.Common.{◌≡◌, ◌+◌, ◌*◌, ◌≤◌, length, ap, ap₂, arith, rules}
+use Rattle.std.proofs.Common.{◌≡◌, ◌+◌, ◌*◌, ◌≤◌, length, ap, arith, rules}
 use Rattle.layout.proofs.Views.{column_within}
 use Rattle.layout.proofs.matrix_view.column.Given as given
 use Rattle.layout.proofs.matrix_view.column.Goals.{Else-span-buffer}

@@ -1,4 +1,4 @@
-use Rattle.std.proofs.Common.{◌≡◌, ◌+◌, ◌*◌, ◌<◌, length, sym, ap, ◌∙◌, arith}
+use Rattle.std.proofs.Common.{◌≡◌, ◌+◌, ◌*◌, ◌<◌, length, ap, arith}
 use Rattle.layout.proofs.Cloning.{column_none, column_more}
 use Rattle.layout.proofs.storage.clone_column.Given as given
 use Rattle.layout.proofs.storage.clone_column.Goals.{After-place-place}

@@ -8,20 +8,20 @@ loop-c-init g c =
     let xs = c.args.cells.now in
     (omega (arith, zero-mul (c.args.rows - c.args.n)), omega (arith, zero-mul c.args.rows), compressing_none xs xs xs _ _ _ _ (omega arith) (omega arith))
 
-pub slide-left-requires : goal.slide-left-requires
-slide-left-requires g c =
+pub slide_left-requires : goal.slide_left-requires
+slide_left-requires g c =
     let a = compress_room c.args.rows c.args.columns c.args.i c.args.n c.requires.0 c.loop-c.c (omega arith) in
     let b = compress_back c.args.rows c.args.columns c.args.i c.args.n c.requires.0 c.loop-c.c in
     (omega arith, omega arith)
 
-pub overflow-add-from-in-loop-c : goal.overflow-add-from-in-loop-c
-overflow-add-from-in-loop-c g c =
+pub overflow_add-from-in-loop-c : goal.overflow_add-from-in-loop-c
+overflow_add-from-in-loop-c g c =
     let a = compress_room c.args.rows c.args.columns c.args.i c.args.n c.requires.0 c.loop-c.c (omega arith) in
     let h : c.loop-c.from + c.args.rows ≤ length c.args.cells.now = omega arith in
     omega arith
 
-pub overflow-add-to : goal.overflow-add-to
-overflow-add-to g c =
+pub overflow_add-to : goal.overflow_add-to
+overflow_add-to g c =
     let a = compress_room c.args.rows c.args.columns c.args.i c.args.n c.requires.0 c.loop-c.c (omega arith) in
     let b = compress_back c.args.rows c.args.columns c.args.i c.args.n c.requires.0 c.loop-c.c in
     omega arith
@@ -30,11 +30,11 @@ pub loop-c-preserved : goal.loop-c-preserved
 loop-c-preserved g c = (
   omega (arith, next_column c.loop-c.c (c.args.rows - c.args.n)),
   omega (arith, next_column c.loop-c.c c.args.rows),
-  compressing_more c.args.cells.now c.loop-c.cells c.slide-left.new.cells _ _ _ _ (omega arith) (omega arith) c.loop-c.c _ _ _ c.loop-c.invariant.0 c.loop-c.invariant.1 (omega arith) c.loop-c.invariant.2 c.slide-left.ensures,
+  compressing_more c.args.cells.now c.loop-c.cells c.slide_left.new.cells _ _ _ _ (omega arith) (omega arith) c.loop-c.c _ _ _ c.loop-c.invariant.0 c.loop-c.invariant.1 (omega arith) c.loop-c.invariant.2 c.slide_left.ensures,
 )
 
-pub slide-left-requires-2 : goal.slide-left-requires-2
-slide-left-requires-2 g c =
+pub slide_left-requires-2 : goal.slide_left-requires-2
+slide_left-requires-2 g c =
     let a = compress_end c.args.rows c.args.columns c.args.i c.args.n c.requires.0 c.loop-c.c (omega arith) in
     let b = compress_back c.args.rows c.args.columns c.args.i c.args.n c.requires.0 c.loop-c.c in
     (omega arith, omega arith)
@@ -42,5 +42,5 @@ slide-left-requires-2 g c =
 pub returns : goal.returns
 returns g c =
     let left = c.args.rows - c.args.n in
-    let s = compressing_more c.args.cells.now c.loop-c.cells c.slide-left-2.new.cells c.args.rows left c.args.i c.args.n (omega arith) (omega arith) c.loop-c.c _ _ (left - c.args.i) c.loop-c.invariant.0 c.loop-c.invariant.1 (omega arith) c.loop-c.invariant.2 c.slide-left-2.ensures in
+    let s = compressing_more c.args.cells.now c.loop-c.cells c.slide_left-2.new.cells c.args.rows left c.args.i c.args.n (omega arith) (omega arith) c.loop-c.c _ _ (left - c.args.i) c.loop-c.invariant.0 c.loop-c.invariant.1 (omega arith) c.loop-c.invariant.2 c.slide_left-2.ensures in
     compressed_all c.args.rows c.args.columns c.args.i c.args.n c.requires.0 c.args.cells.now _ c.loop-c.c _ (omega arith) (omega arith) s

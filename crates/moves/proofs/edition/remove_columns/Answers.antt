@@ -2,22 +2,22 @@ use Rattle.std.proofs.Common.{arith}
 use Rattle.moves.proofs.Columns.{remove_room}
 use Rattle.moves.proofs.edition.remove_columns.Goals as goal
 
-pub overflow-mul-next : goal.overflow-mul-next
-overflow-mul-next g c =
+pub overflow_mul-next : goal.overflow_mul-next
+overflow_mul-next g c =
     let a = remove_room c.args.rows c.args.columns c.args.i c.args.n c.requires.0 in
     omega arith
 
-pub overflow-mul-i : goal.overflow-mul-i
-overflow-mul-i g c =
+pub overflow_mul-i : goal.overflow_mul-i
+overflow_mul-i g c =
     let a = remove_room c.args.rows c.args.columns c.args.i c.args.n c.requires.0 in
     omega arith
 
-pub overflow-mul-behind : goal.overflow-mul-behind
-overflow-mul-behind g c =
+pub overflow_mul-behind : goal.overflow_mul-behind
+overflow_mul-behind g c =
     let a = remove_room c.args.rows c.args.columns c.args.i c.args.n c.requires.0 in
     omega arith
 
-pub slide-left-requires : goal.slide-left-requires
-slide-left-requires g c =
+pub slide_left-requires : goal.slide_left-requires
+slide_left-requires g c =
     let a = remove_room c.args.rows c.args.columns c.args.i c.args.n c.requires.0 in
     (omega arith, omega arith)
