@@ -1,12 +1,12 @@
 -- Columns taken out and put in, from places of the buffer to the model's tables.
-use Rattle.std.proofs.Common.{◌≡◌, ℕ, ◌+◌, ◌-◌, ◌*◌, ◌<◌, ◌≤◌, ◌⊎◌, List, ◌++◌, length, get_or, take, drop, sym, refl, ap, ◌∙◌, ap₂, inl, inr, mul_comm, add-mul, arith}
+use Rattle.std.proofs.Common.{◌≡◌, ℕ, ◌+◌, ◌-◌, ◌*◌, ◌≤◌, List, ◌++◌, length, get_or, take, drop, sym, ap, ◌∙◌, ap₂, inl, inr, mul_comm, add-mul, arith}
 use Rattle.std.proofs.lemmas.List.{get_or-drop, length-drop}
 use Rattle.std.proofs.lemmas.Nat.{mul-add-lt}
 use Rattle.std.proofs.lemmas.Bool.{cases_lt}
 use Rattle.moves.specs.Slides.{Slid, Copied}
 use Rattle.moves.specs.Tables.{ColumnsInserted}
 use Rattle.moves.proofs.Places.{columns_lt, columns_wider}
-use Rattle.model.specs.Sheet.{old, new, column, Change, remove_lines, insert_lines, Table, cell_at, cell_of, rows_of, columns_of, changed}
+use Rattle.model.specs.Sheet.{old, new, column, Change, remove_lines, insert_lines, Table, cell_at, cell_of, columns_of, changed}
 use Rattle.model.specs.Journal.{Right, lost_of}
 use Rattle.model.proofs.Lines.{keep_at, insert_upper, insert_new, insert_lower, remove_upper, remove_lower}
 use Rattle.model.proofs.Joins.{table_cells, changed_cells, old_cell, the_cell, cell_of_lem, same_cell, lying, put_behind}

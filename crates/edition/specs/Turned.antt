@@ -1,5 +1,4 @@
 -- A layout with rows and columns in each other's place.
-use Rattle.std.specs.Prelude.{ℕ}
 use Rattle.layout.specs.Lawful.{Grid, Lawful}
 
 abbrev pub turn : Grid → Grid

@@ -1,5 +1,5 @@
 -- A call from its questions and its work: the same for every change of either side.
-use Rattle.std.proofs.Common.{◌≡◌, ℕ, ◌+◌, ◌*◌, ◌<◌, ◌≤◌, true, false, List, [], ◌∷◌, ◌++◌, map, length, take, drop, set, is_err, Ok, Err, Result, sym, refl, ap, ◌∙◌, subst, ap₂, append-nil, arith, length-set}
+use Rattle.std.proofs.Common.{◌≡◌, ℕ, ◌+◌, ◌*◌, ◌≤◌, true, false, List, [], ◌∷◌, ◌++◌, map, length, take, drop, set, is_err, Ok, Err, Result, sym, refl, ap, ◌∙◌, subst, ap₂, append-nil, arith, length-set}
 use Rattle.std.proofs.lemmas.Bool.{both_ways}
 use Rattle.layout.specs.declared.refusal.Refusal.{Refusal}
 use Rattle.layout.specs.Refusals.{number_of}
@@ -9,7 +9,7 @@ use Rattle.model.specs.Journal.{Sheet, Room, Right, done, refused, first_no, ver
 use Rattle.model.specs.Reached.{Bounds}
 use Rattle.model.proofs.Counting.{Counts}
 use Rattle.model.proofs.Joins.{lying}
-use Rattle.model.proofs.Reaching.{bounds, still_reached}
+use Rattle.model.proofs.Reaching.{still_reached}
 use Rattle.model.proofs.Replays.{not_done}
 use Rattle.journal.specs.declared.parts.Note.{Note}
 use Rattle.journal.specs.declared.parts.Tops.{Tops}

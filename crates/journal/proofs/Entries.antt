@@ -1,5 +1,5 @@
 -- A run and an entry more.
-use Rattle.std.proofs.Common.{◌≡◌, ℕ, ◌+◌, ◌<◌, cond, ltb, List, [], ◌∷◌, ◌++◌, map, reverse, length, take, set, sym, ap, ◌∙◌, ap₂}
+use Rattle.std.proofs.Common.{◌≡◌, ℕ, ◌+◌, ◌<◌, ltb, List, [], ◌∷◌, ◌++◌, map, reverse, length, take, set, sym, ap, ◌∙◌, ap₂}
 use mathlib.Core.List.{map-append}
 use Rattle.std.proofs.lemmas.List.{take_more_set, reverse-append}
 use Rattle.std.proofs.lemmas.Bool.{cond-true, lt-ltb}

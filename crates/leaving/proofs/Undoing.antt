@@ -1,13 +1,12 @@
 -- The newest change taken back, whichever it was: what is left to show is that the former cells stand there again.
-use Rattle.std.proofs.Common.{◌≡◌, ℕ, ◌+◌, ◌-◌, ◌*◌, ◌<◌, ◌≤◌, List, [], ◌∷◌, ◌++◌, map, reverse, length, get_or, take, Ok, Err, sym, refl, ap, ◌∙◌, ap₂, arith, length-append}
+use Rattle.std.proofs.Common.{◌≡◌, ℕ, ◌+◌, ◌-◌, ◌*◌, ◌<◌, ◌≤◌, [], ◌∷◌, map, reverse, length, get_or, take, Ok, Err, sym, refl, ap, ◌∙◌, ap₂, arith, length-append}
 use mathlib.Core.List.{is_set}
 use native.Mathlib.Bridge.{le_prop}
 use Rattle.std.proofs.lemmas.List.{take_more, take-map, take-take, reverse-append}
 use Rattle.layout.specs.declared.refusal.Refusal.{Refusal}
-use Rattle.model.specs.Sheet.{Table}
 use Rattle.model.specs.Journal as model
 use Rattle.model.specs.Journal.{Sheet, lost_of, before, step, undo, taken_back, done, refused, all_but}
-use Rattle.model.specs.Reached.{Newest, Reachable}
+use Rattle.model.specs.Reached.{Newest}
 use Rattle.model.proofs.Reaching.{by_newest, newest_back, still_reached}
 use Rattle.model.proofs.Replays.{not_done}
 use Rattle.journal.specs.declared.parts.Entry.{Entry}

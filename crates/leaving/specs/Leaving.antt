@@ -1,5 +1,5 @@
 -- What every undo leaves besides the cells.
-use Rattle.std.specs.Prelude.{◌≡◌, ℕ, ◌-◌, List, ◌∷◌, map, reverse, length, take}
+use Rattle.std.specs.Prelude.{◌≡◌, ◌-◌, List, ◌∷◌, map, reverse, length, take}
 use Rattle.journal.specs.declared.parts.Entry.{Entry}
 use Rattle.journal.specs.declared.parts.Parts.{Parts}
 use Rattle.journal.specs.View.{entries_of, entry_of}

@@ -9,7 +9,7 @@ use Rattle.columns.proofs.put_columns.Goals as goal
 pub returns : goal.returns
 returns g c =
     let p = c.args.p.now in
-    let h = c.insert-columns.ensures in
+    let h = c.insert_columns.ensures in
     let e = c.enter.ensures in
     performed p _ _ c.enter.new.p _ _ c.args.i 0 0 0 _ _ _ _
     (record { cells_long = h.long; saved_long = refl; entries = refl; runs = refl; rows = refl; columns = refl; tops = refl })

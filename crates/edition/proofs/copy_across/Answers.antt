@@ -1,8 +1,7 @@
-use Rattle.std.proofs.Common.{◌≡◌, ◌+◌, ◌<◌, length, get_or, sym, ap, ◌∙◌, arith, rules}
+use Rattle.std.proofs.Common.{◌+◌, ◌<◌, length, get_or, ap, ◌∙◌, arith, rules}
 use Rattle.std.proofs.lemmas.List.{get_or_read}
 use Rattle.layout.proofs.Writing.{nothing_written, renamed}
 use Rattle.edition.proofs.Filling.{column_more}
-use Rattle.edition.proofs.copy_across.Given as given
 use Rattle.edition.proofs.copy_across.Goals as goal
 
 pub loop-r-init : goal.loop-r-init
@@ -13,16 +12,16 @@ bounds-buffer-from g c =
     let w = (g.L.Layout.lawful c.args.layout.now).within c.args.column c.loop-r.r (omega arith) (omega arith) in
     omega (arith, c.place-from.ensures.inside (omega arith) (omega arith))
 
-pub offset-bounds-buffer-from : goal.offset-bounds-buffer-from
-offset-bounds-buffer-from g c = let h : c.place-from.result < length c.loop-r.buffer = bounds-buffer-from g c in search rules
+pub offset_bounds-buffer-from : goal.offset_bounds-buffer-from
+offset_bounds-buffer-from g c = let h : c.place-from.result < length c.loop-r.buffer = bounds-buffer-from g c in search rules
 
 pub bounds-buffer-to : goal.bounds-buffer-to
 bounds-buffer-to g c =
     let w = (g.L.Layout.lawful c.args.layout.now).within c.loop-r.r c.args.column (omega arith) (omega arith) in
     omega (arith, c.place-to.ensures.inside (omega arith) (omega arith))
 
-pub offset-bounds-buffer-to : goal.offset-bounds-buffer-to
-offset-bounds-buffer-to g c = let h : c.place-to.result < length c.loop-r.buffer = bounds-buffer-to g c in search rules
+pub offset_bounds-buffer-to : goal.offset_bounds-buffer-to
+offset_bounds-buffer-to g c = let h : c.place-to.result < length c.loop-r.buffer = bounds-buffer-to g c in search rules
 
 pub loop-r-preserved : goal.loop-r-preserved
 loop-r-preserved g c =

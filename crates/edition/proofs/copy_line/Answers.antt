@@ -13,13 +13,13 @@ bounds-source-p g c =
     let w = (g.L.Layout.lawful c.args.layout.now).within c.args.line c.loop-c.c (omega arith) (omega arith) in
     omega (arith, c.place-p.ensures.inside (omega arith) (omega arith))
 
-pub offset-bounds-source-p : goal.offset-bounds-source-p
-offset-bounds-source-p g c =
+pub offset_bounds-source-p : goal.offset_bounds-source-p
+offset_bounds-source-p g c =
     let w = (g.L.Layout.lawful c.args.layout.now).within c.args.line c.loop-c.c (omega arith) (omega arith) in
     omega (arith, c.place-p.ensures.inside (omega arith) (omega arith))
 
-pub overflow-mul-k : goal.overflow-mul-k
-overflow-mul-k g c = let h = c.requires.room c.loop-c.c (omega arith) in omega arith
+pub overflow_mul-k : goal.overflow_mul-k
+overflow_mul-k g c = let h = c.requires.room c.loop-c.c (omega arith) in omega arith
 
 pub loop-c-preserved : goal.loop-c-preserved
 loop-c-preserved g c =

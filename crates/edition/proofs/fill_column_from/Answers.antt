@@ -2,19 +2,20 @@ use Rattle.std.proofs.Common.{◌<◌, length, refl, arith, rules}
 use Rattle.layout.proofs.Writing.{nothing_written, renamed}
 use Rattle.edition.proofs.Filling.{column_more}
 use Rattle.edition.proofs.fill_column_from.Given as given
+use Rattle.edition.proofs.fill_column_from.Goals.{After-place-p}
 use Rattle.edition.proofs.fill_column_from.Goals as goal
 
 pub loop-r-init : goal.loop-r-init
 loop-r-init g c = nothing_written _ _ _ _ (λ r c p q h. omega (arith, h.1, h.2))
 
 -- the place lies within the buffer
-reached : (g : given.Over) (c : goal.After-place-p g) → c.place-p.result < length c.loop-r.buffer
+reached : (g : given.Over) (c : After-place-p g) → c.place-p.result < length c.loop-r.buffer
 reached g c =
     let w = (g.L.Layout.lawful c.args.layout.now).within c.loop-r.r c.args.column (omega arith) (omega arith) in
     omega (arith, c.place-p.ensures.inside (omega arith) (omega arith))
 
-pub offset-bounds-buffer-p : goal.offset-bounds-buffer-p
-offset-bounds-buffer-p g c = let h = reached g c in search rules
+pub offset_bounds-buffer-p : goal.offset_bounds-buffer-p
+offset_bounds-buffer-p g c = let h = reached g c in search rules
 
 pub bounds-buffer-p : goal.bounds-buffer-p
 bounds-buffer-p g c = reached g c

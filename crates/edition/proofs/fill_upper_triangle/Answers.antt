@@ -4,8 +4,8 @@ use Rattle.edition.proofs.fill_upper_triangle.Goals as goal
 
 pub returns : goal.returns
 returns g c =
-    let e = c.fill-lower-triangle.ensures in
+    let e = c.fill_lower_triangle.ensures in
     record {
       answer = e.answer;
-      after = MatchResult-weaker c.fill-lower-triangle.result e.after (λ _ s. turned_back (g.L.Layout.grid c.args.layout.now) s) (λ _ same. same);
+      after = MatchResult-weaker c.fill_lower_triangle.result e.after (λ _ s. turned_back (g.L.Layout.grid c.args.layout.now) s) (λ _ same. same);
     }

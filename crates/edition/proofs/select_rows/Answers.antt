@@ -4,10 +4,10 @@ use Rattle.edition.specs.Selections.{select_rules}
 use Rattle.edition.proofs.Selecting.{rows_apart, rows_selected, rows_within}
 use Rattle.edition.proofs.select_rows.Goals as goal
 
-pub copy-lines-requires : goal.copy-lines-requires
-copy-lines-requires g c =
+pub copy_lines-requires : goal.copy_lines-requires
+copy_lines-requires g c =
     let width = (g.L.Layout.grid c.args.layout.now).columns in
-    let p = passed (select_rules (g.L.Layout.grid c.args.layout.now) c.args.list.now (length c.args.source.now) (length c.args.target.now)) c.ask-selection-asked.result c.ask-selection-asked.ensures c.if-is-err.ensures.value in
+    let p = passed (select_rules (g.L.Layout.grid c.args.layout.now) c.args.list.now (length c.args.source.now) (length c.args.target.now)) c.ask_selection-asked.result c.ask_selection-asked.ensures c.if-is_err.ensures.value in
     record {
       there = (p.0, p.1.1.1.0, refl);
       apart = rows_apart (length c.args.list.now) width;
@@ -17,6 +17,6 @@ copy-lines-requires g c =
 pub returns : goal.returns
 returns g c =
     record {
-      answer = passed (select_rules (g.L.Layout.grid c.args.layout.now) c.args.list.now (length c.args.source.now) (length c.args.target.now)) c.ask-selection-asked.result c.ask-selection-asked.ensures c.if-is-err.ensures.value;
-      after = rows_selected (g.L.Layout.grid c.args.layout.now) c.args.list.now c.args.source.now _ _ c.copy-lines.ensures;
+      answer = passed (select_rules (g.L.Layout.grid c.args.layout.now) c.args.list.now (length c.args.source.now) (length c.args.target.now)) c.ask_selection-asked.result c.ask_selection-asked.ensures c.if-is_err.ensures.value;
+      after = rows_selected (g.L.Layout.grid c.args.layout.now) c.args.list.now c.args.source.now _ _ c.copy_lines.ensures;
     }

@@ -4,8 +4,8 @@ use Rattle.edition.proofs.swap_columns.Goals as goal
 
 pub returns : goal.returns
 returns g c =
-    let e = c.swap-rows.ensures in
+    let e = c.swap_rows.ensures in
     record {
       answer = e.answer;
-      after = MatchResult-weaker c.swap-rows.result e.after (λ _ s. turned_back (g.L.Layout.grid c.args.layout.now) s) (λ _ same. same);
+      after = MatchResult-weaker c.swap_rows.result e.after (λ _ s. turned_back (g.L.Layout.grid c.args.layout.now) s) (λ _ same. same);
     }

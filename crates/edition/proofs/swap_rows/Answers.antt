@@ -1,6 +1,6 @@
 use Rattle.std.proofs.Common.{arith}
 use Rattle.layout.proofs.Writing.{nothing_written, renamed}
-use Rattle.edition.proofs.Swapping.{Exchanged, swapped_more}
+use Rattle.edition.proofs.Swapping.{swapped_more}
 use Rattle.edition.proofs.swap_rows.Goals as goal
 
 pub loop-column-init : goal.loop-column-init
@@ -13,7 +13,7 @@ swap-requires g c =
     let q = law.within c.args.j c.loop-column.column (omega arith) (omega arith) in
     let i = c.place-p.ensures.inside (omega arith) (omega arith) in
     let j = c.place-q.ensures.inside (omega arith) (omega arith) in
-    record { a-in-bounds = omega arith; b-in-bounds = omega arith }
+    record { a_in_bounds = omega arith; b_in_bounds = omega arith }
 
 pub loop-column-preserved : goal.loop-column-preserved
 loop-column-preserved g c =

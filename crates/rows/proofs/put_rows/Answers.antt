@@ -9,7 +9,7 @@ use Rattle.rows.proofs.put_rows.Goals as goal
 pub returns : goal.returns
 returns g c =
     let p = c.args.p.now in
-    let h = c.insert-rows.ensures in
+    let h = c.insert_rows.ensures in
     let e = c.enter.ensures in
     performed p _ _ c.enter.new.p _ _ c.args.i 0 0 0 _ _ _ _
     (record { cells_long = h.long; saved_long = refl; entries = refl; runs = refl; rows = refl; columns = refl; tops = refl })

@@ -5,8 +5,8 @@ use Rattle.journal.proofs.Answering.{cells_fit, no_run, nothing_lost, performed}
 use Rattle.swaps.proofs.Exchanging.{exchanged_cells, lost, swapped_long}
 use Rattle.swaps.proofs.exchange.Goals as goal
 
-pub swap-cells-requires : goal.swap-cells-requires
-swap-cells-requires g c =
+pub swap_cells-requires : goal.swap_cells-requires
+swap_cells-requires g c =
     let p = c.args.p.now in
     let b = c.requires.bounds in
     record { small = (b.rows, b.columns, omega (arith, b.cells, b.room_small), cells_fit p b); there = c.requires.there }
@@ -17,7 +17,7 @@ returns g c =
     let side = c.args.side in
     let i = c.args.i in
     let j = c.args.j in
-    let s = c.swap-cells.ensures in
+    let s = c.swap_cells.ensures in
     let made = c.enter.ensures in
     let there = c.requires.there in
     performed p _ _ c.enter.new.p _ _ i 0 0 0 _ _ _ _

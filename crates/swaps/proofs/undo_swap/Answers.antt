@@ -10,8 +10,8 @@ use Rattle.swaps.proofs.Exchanging.{swapped_long}
 use Rattle.swaps.proofs.Back.{lines_there, swapped_back}
 use Rattle.swaps.proofs.undo_swap.Goals as goal
 
-pub swap-cells-requires : goal.swap-cells-requires
-swap-cells-requires g c =
+pub swap_cells-requires : goal.swap_cells-requires
+swap_cells-requires g c =
     let p = c.args.p.now in
     let b = bounds (view p) c.requires.held.reachable in
     record {
@@ -33,8 +33,8 @@ returns g c =
     let i = c.args.i in
     let j = c.args.j in
     let b = bounds (view p) c.requires.held.reachable in
-    let s = c.swap-cells.ensures in
-    let left : c.swap-cells.new.cells ≡ c.leave.new.p.cells.now = sym (ap (λ r. r.now) c.leave.ensures.cells) in
+    let s = c.swap_cells.ensures in
+    let left : c.swap_cells.new.cells ≡ c.leave.new.p.cells.now = sym (ap (λ r. r.now) c.leave.ensures.cells) in
     undone p e c.requires.held c.requires.newest c.leave.new.p
     (moved_back p _ c.leave.new.p e
     (record { cells_long = swapped_long side _ _ _ i j s; saved_long = refl; entries = refl; runs = refl; rows = refl; columns = refl; tops = refl }) refl c.leave.ensures.rest)
