@@ -1,5 +1,5 @@
 -- A gap opened and then filled is one change.
-use Rattle.std.proofs.Common.{◌≡◌, ℕ, ◌+◌, ◌*◌, ◌<◌, ◌≤◌, true, false, List, [], map, length, take, set, is_err, Ok, Err, Result, sym, refl, ap, ◌∙◌, subst, ap₂, arith}
+use Rattle.std.proofs.Common.{◌≡◌, ℕ, ◌+◌, ◌*◌, ◌≤◌, true, false, List, [], map, length, take, set, is_err, Ok, Err, Result, sym, refl, ap, ◌∙◌, subst, ap₂, arith}
 use mathlib.Core.Logic.{∥∥₁_elim, ∥∥₁_prop}
 use native.Mathlib.Bridge.{le_prop}
 use Rattle.std.proofs.lemmas.Bool.{both_ways}
@@ -15,12 +15,11 @@ use Rattle.journal.specs.declared.parts.Note.{Note}
 use Rattle.journal.specs.declared.parts.Tops.{Tops}
 use Rattle.journal.specs.declared.parts.Parts.{Parts}
 use Rattle.journal.specs.View.{TopsFit, run_of, side_of, table_of, view}
-use Rattle.journal.specs.Asking.{Fits}
 use Rattle.journal.specs.Entering.{entry_for}
 use Rattle.journal.specs.Answering.{Answers, Held, Performed}
 use Rattle.journal.proofs.Asking.{verdict_is}
 use Rattle.journal.proofs.Answering.{accepts, no_run, nothing_lost, refuses}
-use Rattle.gaps.specs.Gaps.{Apart, Written, Roomy, Parted, Gap, Left, Filled, Fills, rows_grown, columns_grown, lines_in}
+use Rattle.gaps.specs.Gaps.{Apart, Written, Roomy, Parted, Left, Filled, Fills, rows_grown, columns_grown, lines_in}
 use Rattle.gaps.proofs.Questions.{gap_counts}
 use Rattle.gaps.proofs.Cells.{row_cells, column_cells}
 

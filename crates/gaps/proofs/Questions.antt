@@ -1,5 +1,5 @@
 -- The answer to the questions of a gap.
-use Rattle.std.proofs.Common.{◌≡◌, ℕ, ◌+◌, ◌<◌, ◌≤◌, true, false, ◌&&◌, leb, List, [], drop, Ok, Err, Result, sym, refl, ap, ◌∙◌, arith}
+use Rattle.std.proofs.Common.{◌≡◌, ℕ, ◌<◌, ◌≤◌, true, leb, List, [], drop, Err, Result, ◌∙◌}
 use Rattle.std.proofs.lemmas.Bool.{and_left, lt-leb}
 use Rattle.layout.specs.declared.refusal.Refusal.{Refusal}
 use Rattle.model.specs.Sheet.{Change, row, column, fill_lines}

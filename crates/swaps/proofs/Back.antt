@@ -1,8 +1,8 @@
 -- A swap taken back.
-use Rattle.std.proofs.Common.{◌≡◌, ℕ, suc, ◌+◌, ◌*◌, ◌<◌, ◌≤◌, true, ◌&&◌, ltb, List, length, take, sym, refl, ap, ◌∙◌, subst, ap₂, arith}
+use Rattle.std.proofs.Common.{◌≡◌, ℕ, suc, ◌*◌, ◌<◌, ◌≤◌, true, ◌&&◌, ltb, List, length, take, sym, ap, ◌∙◌, subst, ap₂, arith}
 use Rattle.std.proofs.lemmas.Bool.{and_parts, ltb-true}
 use Rattle.layout.specs.Lawful.{dense}
-use Rattle.model.specs.Sheet.{row, column, Change, insert_lines, remove_lines, remove_listed, swap_lines, fill_lines, resize_to, Table, changed}
+use Rattle.model.specs.Sheet.{Change, insert_lines, remove_lines, remove_listed, swap_lines, fill_lines, resize_to, Table, changed}
 use Rattle.model.specs.Journal as model
 use Rattle.model.specs.Journal.{Sheet, named_in}
 use Rattle.model.specs.Reached.{Newest}

@@ -45,7 +45,8 @@ fn swap_cells<T: Copy>(cells: &mut [T], rows: u32, columns: u32, side: Side, i: 
 
 // Lines i and j change places.
 pub fn swap<T: Copy>(p: &mut Parts<'_, T>, side: Side, i: u32, j: u32) -> Result<(), Refusal>
-    requires { Held p.old }
+    requires held { Held p.old }
+    requires small { length p.old.cells.now ≤ 65536 }
     ensures { Answers p.old p.new (change (swap_lines (side_of side) i j)) result }
 {
     let (rows, columns) = (p.rows, p.columns);
@@ -63,6 +64,7 @@ pub fn swap<T: Copy>(p: &mut Parts<'_, T>, side: Side, i: u32, j: u32) -> Result
 
 fn exchange<T: Copy>(p: &mut Parts<'_, T>, side: Side, i: u32, j: u32)
     requires bounds { Bounds (view p.old) }
+    requires small { length p.old.cells.now ≤ 65536 }
     requires there { (i < lines_of side p.old.rows p.old.columns) × (j < lines_of side p.old.rows p.old.columns) }
     requires fits { Fits p.old p.old.rows p.old.columns 0 0 }
     ensures { Performed p.old p.new (swap_lines (side_of side) i j) p.old.rows p.old.columns [] 0 }
@@ -75,6 +77,7 @@ fn exchange<T: Copy>(p: &mut Parts<'_, T>, side: Side, i: u32, j: u32)
 // Takes the swap back that the newest entry notes: the lines change places once more.
 pub fn undo_swap<T: Copy>(p: &mut Parts<'_, T>, entry: Entry, side: Side, i: u32, j: u32)
     requires held { Held p.old }
+    requires small { length p.old.cells.now ≤ 65536 }
     requires newest { Newest p.old entry }
     requires noted { entry.note ≡ Exchange side i j }
     ensures { Answers p.old p.new undo (Ok tt) }

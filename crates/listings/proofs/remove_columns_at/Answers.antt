@@ -1,75 +1,74 @@
 use Rattle.std.proofs.Common.{◌-◌, length, sym, refl, ap, ◌∙◌, arith}
 use Rattle.model.specs.Sheet.{listed, column, remove_listed}
 use Rattle.model.proofs.Reaching.{bounds}
-use Rattle.model.proofs.Listed.{counted}
 use Rattle.journal.specs.View.{view, table_of}
 use Rattle.journal.proofs.Answering.{stopped, room, accepts}
 use Rattle.listings.proofs.Working.{columns_counted, found_count, found_own, found_long, found_rises, found_few, small, changed_long, performed_cut, columns_cut, columns_spared, columns_inside}
 use Rattle.listings.proofs.remove_columns_at.Goals as goal
 
-pub find-listed-runs-requires : goal.find-listed-runs-requires
-find-listed-runs-requires g c =
+pub find_listed-runs-requires : goal.find_listed-runs-requires
+find_listed-runs-requires g c =
     let p = c.args.p.now in
     let b = bounds (view p) c.requires.reachable in
     (b.columns, b.columns)
 
-pub overflow-mul-lost : goal.overflow-mul-lost
-overflow-mul-lost g c =
+pub overflow_mul-lost : goal.overflow_mul-lost
+overflow_mul-lost g c =
     let p = c.args.p.now in
     let b = bounds (view p) c.requires.reachable in
-    let few = found_few c.args.list.now p.columns _ c.find-listed-runs.result c.find-listed-runs.ensures in
-    omega (arith, small p.rows c.find-listed-runs.result.lines b.rows (omega (arith, b.columns)))
+    let few = found_few c.args.list.now p.columns _ c.find_listed-runs.result c.find_listed-runs.ensures in
+    omega (arith, small p.rows c.find_listed-runs.result.lines b.rows (omega (arith, b.columns)))
 
-pub overflow-sub-columns : goal.overflow-sub-columns
-overflow-sub-columns g c =
+pub overflow_sub-columns : goal.overflow_sub-columns
+overflow_sub-columns g c =
     let p = c.args.p.now in
     let b = bounds (view p) c.requires.reachable in
-    found_few c.args.list.now p.columns _ c.find-listed-runs.result c.find-listed-runs.ensures
+    found_few c.args.list.now p.columns _ c.find_listed-runs.result c.find_listed-runs.ensures
 
-pub returns-then-is-err : goal.returns-then-is-err
-returns-then-is-err g c =
+pub returns-then-is_err : goal.returns-then-is_err
+returns-then-is_err g c =
     let p = c.args.p.now in
     let b = bounds (view p) c.requires.reachable in
-    stopped p _ _ _ _ _ _ (columns_counted (table_of p) c.args.list.now c.find-listed-runs.result.lines b.right c.find-listed-runs.ensures.lines) (found_count (listed c.args.list.now) p.columns _ c.find-listed-runs.result c.find-listed-runs.ensures) c.ask-asked.result c.requires c.ask-asked.ensures.which c.if-is-err.ensures.value
+    stopped p _ _ _ _ _ _ (columns_counted (table_of p) c.args.list.now c.find_listed-runs.result.lines b.right c.find_listed-runs.ensures.lines) (found_count (listed c.args.list.now) p.columns _ c.find_listed-runs.result c.find_listed-runs.ensures) c.ask-asked.result c.requires c.ask-asked.ensures.which c.if-is_err.ensures.value
 
-pub cut-lines-requires : goal.cut-lines-requires
-cut-lines-requires g c =
+pub cut_lines-requires : goal.cut_lines-requires
+cut_lines-requires g c =
     let p = c.args.p.now in
     let b = bounds (view p) c.requires.reachable in
     let list = c.args.list.now in
-    let found = c.find-listed-runs.result in
-    let made = c.find-listed-runs.ensures in
-    let fits = room p _ _ _ _ _ _ (columns_counted (table_of p) c.args.list.now c.find-listed-runs.result.lines b.right c.find-listed-runs.ensures.lines) (found_count (listed c.args.list.now) p.columns _ c.find-listed-runs.result c.find-listed-runs.ensures) c.ask-asked.result c.requires c.ask-asked.ensures.which c.if-is-err.ensures.value c.ask-asked.ensures.goes in
+    let found = c.find_listed-runs.result in
+    let made = c.find_listed-runs.ensures in
+    let fits = room p _ _ _ _ _ _ (columns_counted (table_of p) c.args.list.now c.find_listed-runs.result.lines b.right c.find_listed-runs.ensures.lines) (found_count (listed c.args.list.now) p.columns _ c.find_listed-runs.result c.find_listed-runs.ensures) c.ask-asked.result c.requires c.ask-asked.ensures.which c.if-is_err.ensures.value c.ask-asked.ensures.goes in
     record {
       rising = found_rises (listed list) p.columns _ found made;
       inside = (omega arith, columns_inside p b list _ found made);
-      counted = sym (ap length (columns_cut p b list _ found made) ∙ (columns_counted (table_of p) c.args.list.now c.find-listed-runs.result.lines b.right c.find-listed-runs.ensures.lines).lost);
+      counted = sym (ap length (columns_cut p b list _ found made) ∙ (columns_counted (table_of p) c.args.list.now c.find_listed-runs.result.lines b.right c.find_listed-runs.ensures.lines).lost);
       fits = (fits.entries, omega (arith, fits.runs, found_long (listed list) p.columns _ found made), fits.saved);
     }
 
-pub overflow-cast-p : goal.overflow-cast-p
-overflow-cast-p g c =
+pub overflow_cast-p : goal.overflow_cast-p
+overflow_cast-p g c =
     let p = c.args.p.now in
     let b = bounds (view p) c.requires.reachable in
-    let few = found_few c.args.list.now p.columns _ c.find-listed-runs.result c.find-listed-runs.ensures in
+    let few = found_few c.args.list.now p.columns _ c.find_listed-runs.result c.find_listed-runs.ensures in
     omega (arith, b.columns)
 
-pub overflow-sub-p : goal.overflow-sub-p
-overflow-sub-p g c =
+pub overflow_sub-p : goal.overflow_sub-p
+overflow_sub-p g c =
     let p = c.args.p.now in
     let b = bounds (view p) c.requires.reachable in
-    let few = found_few c.args.list.now p.columns _ c.find-listed-runs.result c.find-listed-runs.ensures in
-    omega (arith, c.cut-lines.ensures.columns)
+    let few = found_few c.args.list.now p.columns _ c.find_listed-runs.result c.find_listed-runs.ensures in
+    omega (arith, c.cut_lines.ensures.columns)
 
 pub returns : goal.returns
 returns g c =
     let p = c.args.p.now in
     let b = bounds (view p) c.requires.reachable in
     let list = c.args.list.now in
-    let found = c.find-listed-runs.result in
-    let made = c.find-listed-runs.ensures in
-    let numbers = columns_counted (table_of p) c.args.list.now c.find-listed-runs.result.lines b.right c.find-listed-runs.ensures.lines in
-    let e = c.cut-lines.ensures in
-    accepts p _ _ _ _ _ _ (columns_counted (table_of p) c.args.list.now c.find-listed-runs.result.lines b.right c.find-listed-runs.ensures.lines) (found_count (listed c.args.list.now) p.columns _ c.find-listed-runs.result c.find-listed-runs.ensures) c.ask-asked.result c.requires c.ask-asked.ensures.which c.if-is-err.ensures.value c.ask-asked.ensures.goes _
-    (performed_cut p c.cut-lines.new.p _ _ _ (remove_listed column list) _ _ _ _ _ _ e refl (found_own (listed list) p.columns _ found made) e.rows (ap (λ k. k - found.lines) e.columns)
+    let found = c.find_listed-runs.result in
+    let made = c.find_listed-runs.ensures in
+    let numbers = columns_counted (table_of p) c.args.list.now c.find_listed-runs.result.lines b.right c.find_listed-runs.ensures.lines in
+    let e = c.cut_lines.ensures in
+    accepts p _ _ _ _ _ _ (columns_counted (table_of p) c.args.list.now c.find_listed-runs.result.lines b.right c.find_listed-runs.ensures.lines) (found_count (listed c.args.list.now) p.columns _ c.find_listed-runs.result c.find_listed-runs.ensures) c.ask-asked.result c.requires c.ask-asked.ensures.which c.if-is_err.ensures.value c.ask-asked.ensures.goes _
+    (performed_cut p c.cut_lines.new.p _ _ _ (remove_listed column list) _ _ _ _ _ _ e refl (found_own (listed list) p.columns _ found made) e.rows (ap (λ k. k - found.lines) e.columns)
     (columns_spared p b list _ found made) (changed_long (table_of p) (remove_listed column list) _ _ b.right refl numbers.rows numbers.columns) (columns_cut p b list _ found made) numbers.lost)

@@ -11,19 +11,19 @@ use Rattle.undo_resize.proofs.Own.{some_entry}
 use Rattle.undo_resize.proofs.Taking.{cells_room, saved_room, table_back}
 use Rattle.undo_resize.proofs.undo_resize.Goals as goal
 
-pub overflow-sub-top : goal.overflow-sub-top
-overflow-sub-top g c =
-    let same = c.take-out-cells.ensures.value in
+pub overflow_sub-top : goal.overflow_sub-top
+overflow_sub-top g c =
+    let same = c.take_out-cells.ensures.value in
     let held = subst Held (sym same) c.requires.held in
     let is = subst (λ z. Newest z c.args.entry) (sym same) c.requires.newest in
-    own_cells c.take-out-cells.result c.args.entry held is
+    own_cells c.take_out-cells.result c.args.entry held is
 
-pub bring-back-shape-requires : goal.bring-back-shape-requires
-bring-back-shape-requires g c =
-    let same = c.take-out-cells.ensures.value in
+pub bring_back_shape-requires : goal.bring_back_shape-requires
+bring_back_shape-requires g c =
+    let same = c.take_out-cells.ensures.value in
     let held = subst Held (sym same) c.requires.held in
     let is = subst (λ z. Newest z c.args.entry) (sym same) c.requires.newest in
-    let q = c.take-out-cells.result in
+    let q = c.take_out-cells.result in
     record {
       table = (cells_fit q (bounds (view q) held.reachable), cells_room q c.args.entry held is c.requires.noted);
       room = saved_room q c.args.entry held is c.requires.noted;
@@ -31,24 +31,24 @@ bring-back-shape-requires g c =
 
 pub leave-requires : goal.leave-requires
 leave-requires g c =
-    let same = c.take-out-cells.ensures.value in
+    let same = c.take_out-cells.ensures.value in
     let held = subst Held (sym same) c.requires.held in
     let is = subst (λ z. Newest z c.args.entry) (sym same) c.requires.newest in
-    let q = c.take-out-cells.result in
+    let q = c.take_out-cells.result in
     let e = c.args.entry in
     (some_entry q e held is, own_runs q e held is, own_cells q e held is)
 
 pub returns : goal.returns
 returns g c =
-    let same = c.take-out-cells.ensures.value in
+    let same = c.take_out-cells.ensures.value in
     let held = subst Held (sym same) c.requires.held in
     let is = subst (λ z. Newest z c.args.entry) (sym same) c.requires.newest in
-    let q = c.take-out-cells.result in
+    let q = c.take_out-cells.result in
     let e = c.args.entry in
     let w = c.leave.ensures.rest in
     let last = c.leave.new.p in
     let cells = ap (λ r. r.now) c.leave.ensures.cells in
-    let h = c.bring-back-shape.ensures in
+    let h = c.bring_back_shape.ensures in
     subst (λ z. Answers z last undo (Ok tt)) same
     (undone q e held is last
     (record {

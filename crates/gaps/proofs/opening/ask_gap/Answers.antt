@@ -1,5 +1,4 @@
 use Rattle.std.proofs.Common.{sym, subst, arith}
-use Rattle.journal.specs.declared.parts.Side.{Side}
 use Rattle.journal.specs.declared.parts.Side.TheVariants.{Rows, Columns}
 use Rattle.gaps.specs.Gaps.{Asked, Roomy}
 use Rattle.gaps.proofs.Questions.{asked_rooms}

@@ -3,26 +3,26 @@ use Rattle.moves.proofs.Places.{columns_wider}
 use Rattle.gaps.proofs.Blocks.{part_room, taking_more}
 use Rattle.gaps.proofs.taking.take_rows.Goals as goal
 
-pub overflow-mul-c : goal.overflow-mul-c
-overflow-mul-c g c =
+pub overflow_mul-c : goal.overflow_mul-c
+overflow_mul-c g c =
     let a = part_room c.args.rows c.args.columns c.args.i c.args.n c.requires.0 c.loop-c.c (omega arith) in
     omega arith
 
-pub overflow-add-i : goal.overflow-add-i
-overflow-add-i g c =
+pub overflow_add-i : goal.overflow_add-i
+overflow_add-i g c =
     let a = part_room c.args.rows c.args.columns c.args.i c.args.n c.requires.0 c.loop-c.c (omega arith) in
     omega arith
 
-pub overflow-mul-c-in-loop-c : goal.overflow-mul-c-in-loop-c
-overflow-mul-c-in-loop-c g c =
+pub overflow_mul-c-in-loop-c : goal.overflow_mul-c-in-loop-c
+overflow_mul-c-in-loop-c g c =
     let a = part_room c.args.rows c.args.columns c.args.i c.args.n c.requires.0 c.loop-c.c (omega arith) in
     let b = columns_wider c.loop-c.c c.args.n c.args.rows (omega arith) in
     omega arith
 
-pub take-block-requires : goal.take-block-requires
-take-block-requires g c =
+pub take_block-requires : goal.take_block-requires
+take_block-requires g c =
     let a = part_room c.args.rows c.args.columns c.args.i c.args.n c.requires.0 c.loop-c.c (omega arith) in
     omega arith
 
 pub loop-c-preserved : goal.loop-c-preserved
-loop-c-preserved g c = taking_more c.args.cells.now c.loop-c.cells c.take-block.new.cells _ _ _ _ _ c.requires.0 c.loop-c.c _ _ (omega arith) (omega arith) c.loop-c.invariant c.take-block.ensures
+loop-c-preserved g c = taking_more c.args.cells.now c.loop-c.cells c.take_block.new.cells _ _ _ _ _ c.requires.0 c.loop-c.c _ _ (omega arith) (omega arith) c.loop-c.invariant c.take_block.ensures

@@ -3,18 +3,18 @@ use Rattle.journal.specs.View.{run_of}
 use Rattle.listed.proofs.Blocks.{group_room, group_long, group_next}
 use Rattle.listed.proofs.cutting.save_runs.Goals as goal
 
-pub overflow-mul-size : goal.overflow-mul-size
-overflow-mul-size g c =
+pub overflow_mul-size : goal.overflow_mul-size
+overflow_mul-size g c =
     let h = group_room 0 c.args.lines.groups (c.args.lines.count * c.args.lines.width) (length c.args.cells.now) c.requires.inside.0 c.requires.inside.1 in
     omega arith
 
-pub overflow-mul-g : goal.overflow-mul-g
-overflow-mul-g g c =
+pub overflow_mul-g : goal.overflow_mul-g
+overflow_mul-g g c =
     let h = group_room c.loop-g.g c.args.lines.groups (c.args.lines.count * c.args.lines.width) (length c.args.cells.now) (omega arith) c.requires.inside.1 in
     omega arith
 
-pub save-group-to-requires : goal.save-group-to-requires
-save-group-to-requires g c =
+pub save_group-to-requires : goal.save_group-to-requires
+save_group-to-requires g c =
     let h = group_long c.args.lines.width (c.args.lines.count * c.args.lines.width) c.loop-g.g c.args.lines.groups c.args.cells.now (map run_of c.args.runs.now) (omega arith) in
     record {
       rising = c.requires.rising;
@@ -25,7 +25,7 @@ save-group-to-requires g c =
 pub loop-g-preserved : goal.loop-g-preserved
 loop-g-preserved g c =
     let h = group_long c.args.lines.width (c.args.lines.count * c.args.lines.width) c.loop-g.g c.args.lines.groups c.args.cells.now (map run_of c.args.runs.now) (omega arith) in (
-      omega (arith, c.loop-g.invariant.0, c.save-group-to.ensures.ends),
+      omega (arith, c.loop-g.invariant.0, c.save_group-to.ensures.ends),
       group_next c.args.lines.width (c.args.lines.count * c.args.lines.width) c.loop-g.g c.args.lines.groups c.args.cells.now (map run_of c.args.runs.now) (omega arith)
-          c.loop-g.saved c.save-group-to.new.saved c.loop-g.to _ _ _ refl c.save-group-to.ensures.ends c.save-group-to.ensures.put c.loop-g.invariant.1,
+          c.loop-g.saved c.save_group-to.new.saved c.loop-g.to _ _ _ refl c.save_group-to.ensures.ends c.save_group-to.ensures.put c.loop-g.invariant.1,
     )
