@@ -1,3 +1,4 @@
 pub mod Cells
 pub mod Openings
 pub mod Gapping
+pub mod Keeping

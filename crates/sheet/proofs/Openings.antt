@@ -1,14 +1,13 @@
 -- A table copied through a layout is the table that the layout has.
-use Rattle.std.proofs.Common.{◌≡◌, ℕ, ◌+◌, ◌*◌, ◌<◌, ◌≤◌, true, false, ◌⊎◌, List, [], ◌∷◌, length, get_or, take, drop, is_err, Ok, Err, Result, sym, refl, ap, ◌∙◌, subst, ap₂, inl, inr, arith, length-drop, length-take, MatchResult}
+use Rattle.std.proofs.Common.{◌≡◌, ℕ, ◌+◌, ◌*◌, ◌<◌, ◌≤◌, List, length, take, drop, Ok, Err, Result, sym, ap, ◌∙◌, subst, ap₂, arith, length-drop, length-take, MatchResult}
 use Rattle.std.specs.List.{range_with_len, AllByRecursion as All}
 use Rattle.std.proofs.lemmas.Nat.{mul-add-lt}
 use Rattle.std.proofs.lemmas.List.FromFn.{length-range_with_len, get_or-range_with_len}
-use Rattle.std.proofs.lemmas.Bool.{both_ways}
 use Rattle.layout.specs.declared.refusal.Refusal.{Refusal}
 use Rattle.layout.specs.Lawful.{Grid, Lawful}
 use Rattle.layout.specs.Cells.{Cloned}
-use Rattle.layout.specs.Checks.{Rule, Checked, Passes, Refuses}
-use Rattle.model.specs.Sheet.{Table, cell_at}
+use Rattle.layout.specs.Checks.{Checked, Passes}
+use Rattle.model.specs.Sheet.{cell_at}
 use Rattle.model.specs.Journal.{Right, Room, opened}
 use Rattle.model.specs.Reached.{Reachable}
 use Rattle.model.proofs.Grids.{Single, Singles, length_grid, grid_at, all_counting}
@@ -64,14 +63,21 @@ module _ {A : Type 0} (grid : Grid) (law : Lawful grid) (xs : List A) (reached :
 -- what stands in the buffers once they are filled
 module _ {A : Type 0} (grid : Grid) (law : Lawful grid) (source : List A) (p q : Parts A) (w : Filled grid source p q)
     (rules : Passes (opening_rules grid (length source) (room_of p))) where
-  pub filled_ghosts : TopsFit q × (Reachable (view q) × Unit {0})
-  filled_ghosts = (w.tops, (subst Reachable (sym w.state) (opened_reachable grid law source rules.1.1.1.0 (room_of p) rules.1.1.0), tt))
+  pub filled_ghosts : TopsFit q × Reachable (view q) × (length q.cells.now ≤ 65536)
+  filled_ghosts = (
+    w.tops,
+    subst Reachable (sym w.state) (opened_reachable grid law source rules.1.1.1.0 (room_of p) rules.1.1.0),
+    subst (λ n. n ≤ 65536) (sym (ap (λ s. s.room.for_cells) w.state)) rules.0.0,
+  )
 
 -- and where that was asked first
 pub refilled_ghosts :
-    {A : Type 0} (grid : Grid) → Lawful grid → (source : List A) (p q : Parts A) (r : Result Unit Refusal) → TopsFit p → Reachable (view p)
+    {A : Type 0} (grid : Grid) → Lawful grid → (source : List A) (p q : Parts A) (r : Result Unit Refusal) → TopsFit p → Reachable (view p) → length p.cells.now ≤ 65536
     → Checked (opening_rules grid (length source) (room_of p)) r → MatchResult r (λ _. Filled grid source p q) (λ _. q ≡ p)
-    → TopsFit q × (Reachable (view q) × Unit {0})
-refilled_ghosts grid law source p q (Ok u) tops reachable rules w = filled_ghosts grid law source p q w rules
-refilled_ghosts {A} grid law source p q (Err e) tops reachable rules same =
-    (subst (λ (z : Parts A). TopsFit z) (sym same) tops, (subst (λ (z : Parts A). Reachable (view z)) (sym same) reachable, tt))
+    → TopsFit q × Reachable (view q) × (length q.cells.now ≤ 65536)
+refilled_ghosts grid law source p q (Ok u) tops reachable small rules w = filled_ghosts grid law source p q w rules
+refilled_ghosts {A} grid law source p q (Err e) tops reachable small rules same = (
+  subst (λ (z : Parts A). TopsFit z) (sym same) tops,
+  subst (λ (z : Parts A). Reachable (view z)) (sym same) reachable,
+  subst (λ (z : Parts A). length z.cells.now ≤ 65536) (sym same) small,
+)

@@ -1,3 +1,4 @@
+ghost use Rattle.std.specs.Prelude.{◌≤◌, length};
 ghost use Rattle.model.specs.Reached.{Reachable};
 ghost use Rattle.journal.specs.View.{view, TopsFit};
 
@@ -12,4 +13,5 @@ pub struct Sheet<'a, T> {
     parts: Parts<'a, T>,
     ghost tops: { TopsFit parts },
     ghost reachable: { Reachable (view parts) },
+    ghost small: { length parts.cells.now ≤ 65536 },
 }

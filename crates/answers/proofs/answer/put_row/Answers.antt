@@ -5,4 +5,4 @@ use Rattle.answers.proofs.answer.put_row.Goals as goal
 
 pub returns : goal.returns
 returns c =
-    row_is (λ k. get_or c.args.cells.now (c.args.row + k * c.args.rows) 0) c.args.columns _ _ _ _ _ c.if-columns-eq0.false (c.from.ensures ∙ c.cell.ensures) c.in-ok-put-number.ensures c.in-ok-put-tail.ensures (chosen _ _ _ _ c.push-2.ensures.items (ap is_ok c.in-ok-push-2.was))
+    row_is (λ k. get_or c.args.cells.now (c.args.row + k * c.args.rows) 0) c.args.columns _ _ _ _ _ c.if-columns-eq0.false (c.from.ensures ∙ c.cell.ensures) c.in_ok-put_number.ensures c.in_ok-put_tail.ensures (chosen _ _ _ _ c.push-2.ensures.items (ap is_ok c.in_ok-push-2.was))

@@ -10,10 +10,10 @@ use Rattle.script.proofs.command.numbers_of.Goals.{In-Some}
 next : (c : In-Some) → Next (further (option_map (λ x. x.now) c.loop-token.rest)) (further (option_map (λ x. x.now) c.in-Some.after)) (part_of c.in-Some.token)
 next c = next_word (option_map (λ x. x.now) c.loop-token.rest) (option_map (λ x. x.now) c.in-Some.after) _ c.in-Some.ensures
 
-pub returns-in-default-value : goal.returns-in-default-value
-returns-in-default-value c =
-    let n = next (goal.at.returns-in-default-value c).In-Some in
-    left_bad _ _ _ _ _ _ n.first c.loop-token.invariant (c.in-default-value.ensures ∙ n.value)
+pub returns-in_default-value : goal.returns-in_default-value
+returns-in_default-value c =
+    let n = next (goal.at.returns-in_default-value c).In-Some in
+    left_bad _ _ _ _ _ _ n.first c.loop-token.invariant (c.in_default-value.ensures ∙ n.value)
 
 pub bounds-at-count : goal.bounds-at-count
 bounds-at-count c = left_room _ _ _ _ _ _ (next (goal.at.bounds-at-count c).In-Some).first c.loop-token.invariant

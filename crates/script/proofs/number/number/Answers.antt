@@ -2,14 +2,14 @@ use Rattle.std.proofs.Common.{◌≡◌, length, sym, ◌∙◌, subst, arith, r
 use Rattle.script.proofs.Reading.{Read, read_bound, read_more, none_digit, tried}
 use Rattle.script.proofs.number.number.Goals as goal
 
-pub returns-in-default : goal.returns-in-default
-returns-in-default c = sym (none_digit c.args.word.now c.loop-b.b-index (omega arith) c.in-default.ensures.value)
+pub returns-in_default : goal.returns-in_default
+returns-in_default c = sym (none_digit c.args.word.now c.loop-b.b-index (omega arith) c.in_default.ensures.value)
 
-pub overflow-mul-n : goal.overflow-mul-n
-overflow-mul-n c = search (rules, read_bound _ _ _ c.loop-b.invariant)
+pub overflow_mul-n : goal.overflow_mul-n
+overflow_mul-n c = search (rules, read_bound _ _ _ c.loop-b.invariant)
 
-pub overflow-add-n : goal.overflow-add-n
-overflow-add-n c = search (rules, read_bound _ _ _ c.loop-b.invariant)
+pub overflow_add-n : goal.overflow_add-n
+overflow_add-n c = search (rules, read_bound _ _ _ c.loop-b.invariant)
 
 pub loop-b-preserved : goal.loop-b-preserved
 loop-b-preserved c =
@@ -19,4 +19,4 @@ loop-b-preserved c =
 pub returns : goal.returns
 returns c =
     let i : c.loop-b.b-index ≡ length c.args.word.now = omega arith in
-    c.ok.ensures.value ∙ tried _ c.loop-b.n (omega (arith, false-eqb _ 0 c.if-is-empty.ensures)) (omega arith) (subst (λ k. Read c.args.word.now k c.loop-b.n) i c.loop-b.invariant) _ c.try-from.ensures
+    c.ok.ensures.value ∙ tried _ c.loop-b.n (omega (arith, false-eqb _ 0 c.if-is_empty.ensures)) (omega arith) (subst (λ k. Read c.args.word.now k c.loop-b.n) i c.loop-b.invariant) _ c.try_from.ensures

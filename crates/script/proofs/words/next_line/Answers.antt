@@ -2,14 +2,14 @@ use Rattle.std.proofs.Common.{◌≡◌, [], ◌∷◌, length, unwrap_or, sym, 
 use Rattle.script.specs.Words.{behind, lines_of}
 use Rattle.script.proofs.Lines.{or_empty, behind_shorter, lines_cut}
 use Rattle.script.proofs.words.next_line.Goals as goal
-use Rattle.script.proofs.words.next_line.Goals.{After-unwrap-or}
+use Rattle.script.proofs.words.next_line.Goals.{After-unwrap_or}
 
-left : (c : After-unwrap-or) → c.unwrap-or.result.now ≡ unwrap_or (behind 10 c.args.text.now) []
-left c = or_empty c.cut.result.1 _ _ c.unwrap-or.ensures refl ∙ ap (λ o. unwrap_or o []) c.cut.ensures.back
+left : (c : After-unwrap_or) → c.unwrap_or.result.now ≡ unwrap_or (behind 10 c.args.text.now) []
+left c = or_empty c.cut.result.1 _ _ c.unwrap_or.ensures refl ∙ ap (λ o. unwrap_or o []) c.cut.ensures.back
 
 pub returns : goal.returns
 returns c =
-    let e = left (goal.at.returns c).After-unwrap-or in
+    let e = left (goal.at.returns c).After-unwrap_or in
     record {
       line = c.cut.ensures.front;
       rest = e;

@@ -4,8 +4,8 @@ use Rattle.journal.specs.View.{view}
 use Rattle.journal.proofs.Answering.{cells_fit}
 use Rattle.sheet.proofs.sheet.Sheet.cells.Goals as goal
 
-pub slice-bounds-result-end : goal.slice-bounds-result-end
-slice-bounds-result-end g c =
+pub slice_bounds-result-end : goal.slice_bounds-result-end
+slice_bounds-result-end g c =
     let s = c.args.self.now in
     let h : s.parts.rows * s.parts.columns ≤ length s.parts.cells.now = cells_fit s.parts (bounds (view s.parts) s.reachable) in
     search rules

@@ -2,8 +2,8 @@ use Rattle.std.proofs.Common.{arith}
 use Rattle.sheet.proofs.Cells.{cell_within, cell_read}
 use Rattle.sheet.proofs.sheet.Sheet.get.Goals as goal
 
-pub offset-bounds-cells-at : goal.offset-bounds-cells-at
-offset-bounds-cells-at g c =
+pub offset_bounds-cells-at : goal.offset_bounds-cells-at
+offset_bounds-cells-at g c =
     let s = c.args.self.now in
     omega (arith, cell_within s.parts s.reachable c.args.row c.args.column (omega arith) (omega arith))
 

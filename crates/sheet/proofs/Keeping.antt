@@ -1,0 +1,47 @@
+-- A call leaves a sheet's buffers as long as they were, and few cells stay few.
+use Rattle.std.proofs.Common.{◌≡◌, ℕ, ◌≤◌, List, [], ◌∷◌, length, Ok, Err, Result, sym, refl, ap, subst, ◌∙◌}
+use Rattle.layout.specs.declared.refusal.Refusal.{Refusal}
+use Rattle.model.specs.Journal.{Sheet, Entry, Answer, done, refused, verdict, after, Call, change, undo, settle, unless, taken_back, step}
+use Rattle.journal.specs.declared.parts.Side.{Side}
+use Rattle.journal.specs.declared.parts.Side.TheVariants.{Rows, Columns}
+use Rattle.journal.specs.declared.parts.Parts.{Parts}
+use Rattle.journal.specs.View.{view}
+use Rattle.journal.specs.Answering.{Answers}
+use Rattle.gaps.specs.Gaps.{Apart, Gap, Opened, Written}
+
+room_unless : {A : Type 0} (a : Answer) (s t : Sheet A) → t.room ≡ s.room → (unless a s t).0.room ≡ s.room
+room_unless done s t e = e
+room_unless (refused n) s t e = refl
+
+room_back : {A : Type 0} (s : Sheet A) (ps : List Entry) → (taken_back s ps).0.room ≡ s.room
+room_back s [] = refl
+room_back s (p ∷ ps) = refl
+
+room_kept : {A : Type 0} (s : Sheet A) (c : Call A) → (step s c).0.room ≡ s.room
+room_kept s (change ch) = room_unless (verdict s ch) s (after s ch) refl
+room_kept s undo = room_back s s.entries
+room_kept s settle = refl
+
+pub still_small :
+    {A : Type 0} (p q : Parts A) (c : Call A) (r : Result Unit Refusal) → Answers p q c r → length p.cells.now ≤ 65536 → length q.cells.now ≤ 65536
+still_small p q c r h small =
+    subst (λ z. z ≤ 65536) (sym (ap (λ s. s.room.for_cells) h.state ∙ ap (λ z. z.for_cells) (room_kept (view p) c))) small
+
+-- opening a gap and filling it move and write cells, and no more
+
+apart_long : {A : Type 0} (side : Side) (xs ys : List A) (rows columns i n : ℕ) → Apart side xs ys rows columns i n → length ys ≡ length xs
+apart_long Rows xs ys rows columns i n h = h.long
+apart_long Columns xs ys rows columns i n h = h.long
+
+opened_long : {A : Type 0} (p q : Parts A) (side : Side) (i n : ℕ) (r : Result Unit Refusal) → Opened p q side i n r → length q.cells.now ≡ length p.cells.now
+opened_long p q side i n (Ok u) h = apart_long side p.cells.now q.cells.now p.rows p.columns i n h.cells
+opened_long p q side i n (Err e) h = ap (λ z. length z.cells.now) h
+
+pub gap_small :
+    {A : Type 0} (p q : Parts A) (side : Side) (i n : ℕ) (r : Result Unit Refusal) → Gap p q side i n r → length p.cells.now ≤ 65536 → length q.cells.now ≤ 65536
+gap_small p q side i n r h small = subst (λ z. z ≤ 65536) (sym (opened_long p q side i n r h.opened)) small
+
+pub written_long :
+    {A : Type 0} (side : Side) (xs ys : List A) (rows columns i n : ℕ) (vs : List A) (v : A) → Written side xs ys rows columns i n vs v → length ys ≡ length xs
+written_long Rows xs ys rows columns i n vs v h = h.long
+written_long Columns xs ys rows columns i n vs v h = h.long
