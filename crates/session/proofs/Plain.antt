@@ -1,5 +1,5 @@
 -- A sheet of one value, opened.
-use Rattle.std.proofs.Common.{◌≡◌, ℕ, ◌*◌, ◌≤◌, Bool, true, false, cond, ◌&&◌, leb, List, [], ◌∷◌, length, take, drop, replicate, is_ok, is_err, Ok, Err, Result, sym, refl, ap, ◌∙◌, subst, ap₂, arith, MatchResult}
+use Rattle.std.proofs.Common.{◌≡◌, ℕ, ◌*◌, ◌≤◌, Bool, true, false, cond, leb, List, [], ◌∷◌, drop, replicate, is_ok, Ok, Err, Result, sym, refl, ap, ◌∙◌, subst, ap₂, arith, MatchResult}
 use lib.ListN.{length-replicate}
 use Rattle.std.proofs.lemmas.List.{take-replicate}
 use Rattle.std.proofs.lemmas.Bool.{and_from, both_ways, le-leb}
@@ -7,13 +7,11 @@ use Rattle.layout.specs.declared.refusal.Refusal.{Refusal}
 use Rattle.layout.specs.Checks.{Checked, Passes, dense_rules}
 use Rattle.layout.specs.Dense.{dense_lawful}
 use Rattle.layout.specs.Lawful.{dense}
-use Rattle.model.specs.Sheet.{Table}
-use Rattle.model.specs.Journal.{Room, Sheet, done, first_no, opened}
-use Rattle.journal.specs.View.{answered}
+use Rattle.model.specs.Journal.{Room, done, first_no, opened}
 use Rattle.sheet.specs.Opening.{opening_rules, table_in}
 use Rattle.sheet.proofs.Openings.{cloned_cells}
 use Rattle.session.specs.declared.state.Session.{Session}
-use Rattle.session.specs.Transcript.{State, new_tests, plain}
+use Rattle.session.specs.Transcript.{new_tests, plain}
 use Rattle.session.specs.Meaning.{NewAnswers, state_of}
 
 passes : (n : ℕ) (b : Bool) (qs : List (ℕ × Bool)) → b ≡ true → done ≡ first_no qs → done ≡ first_no ((n, b) ∷ qs)

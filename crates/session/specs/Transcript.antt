@@ -1,5 +1,5 @@
 -- What the lines of a script do to a sheet of weights, and what is written of each.
-use Rattle.std.specs.Prelude.{ℕ, ◌+◌, ◌*◌, Bool, true, false, cond, not, ◌&&◌, ◌||◌, List, [], ◌∷◌, ◌++◌, map, length, replicate, Ok, Err, Result, nat_le, slice_index}
+use Rattle.std.specs.Prelude.{ℕ, ◌+◌, ◌*◌, Bool, true, false, cond, not, ◌&&◌, List, [], ◌∷◌, ◌++◌, map, replicate, Ok, Err, Result, nat_le, slice_index}
 use Rattle.std.specs.List.{range_with_len, flat_map}
 use Rattle.layout.specs.Refusals.{number_of}
 use Rattle.model.specs.Sheet as lines

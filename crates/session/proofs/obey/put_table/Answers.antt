@@ -1,4 +1,4 @@
-use Rattle.std.proofs.Common.{◌≡◌, ℕ, ◌+◌, ◌-◌, ◌*◌, List, ◌++◌, map, get_or, vec_items, ap, ◌∙◌, ap₂, arith}
+use Rattle.std.proofs.Common.{◌≡◌, ◌+◌, ◌-◌, ◌*◌, ◌++◌, map, get_or, vec_items, ap, ◌∙◌, ap₂, arith}
 use Rattle.std.specs.List.{range_with_len, flat_map}
 use Rattle.answers.specs.Answers.{row_text}
 use Rattle.session.proofs.Printing.{one_more, none_left}
@@ -7,7 +7,7 @@ use Rattle.session.proofs.obey.put_table.Goals as goal
 pub loop-r-preserved : goal.loop-r-preserved
 loop-r-preserved c =
     one_more (λ r. row_text (map (λ k. get_or c.cells-cells.result.now (r + k * c.shape-rows.result.0) 0) (range_with_len 0 c.shape-rows.result.1))) c.shape-rows.result.0
-    (vec_items c.loop-r.out) _ c.loop-r.r (vec_items c.put-row.new.out) c.loop-r-test.true c.in-ok-put-row.ensures c.loop-r.invariant
+    (vec_items c.loop-r.out) _ c.loop-r.r (vec_items c.put_row.new.out) c.loop-r-test.true c.in_ok-put_row.ensures c.loop-r.invariant
 
 pub returns : goal.returns
 returns c =

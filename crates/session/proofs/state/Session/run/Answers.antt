@@ -10,10 +10,10 @@ fallen a b n h (inr k) = let e : b ≡ n = k.1 in omega arith
 pub loop-out-preserved : goal.loop-out-preserved
 loop-out-preserved c =
     let some : 0 < length c.loop-out.rest.now = omega (arith, false-eqb _ 0 c.loop-out-test.ensures) in
-    let shorter = c.next-line.ensures.shorter some in
-    let told = c.in-ok-obey.ensures in
+    let shorter = c.next_line.ensures.shorter some in
+    let told = c.in_ok-obey.ensures in
     let inv = c.loop-out.invariant in (
-      line_more _ _ c.loop-out.number c.next-line.result.0.now _ _ _ _ _ (c.next-line.ensures.lines some) told.0 told.1 inv.0,
+      line_more _ _ c.loop-out.number c.next_line.result.0.now _ _ _ _ _ (c.next_line.ensures.lines some) told.0 told.1 inv.0,
       omega (arith, inv.1),
       inl (fallen _ _ _ shorter inv.2),
     )
