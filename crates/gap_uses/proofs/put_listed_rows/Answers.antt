@@ -4,5 +4,5 @@ use Rattle.gap_uses.proofs.put_listed_rows.Goals as goal
 
 pub returns : goal.returns
 returns g c =
-    let opened = c.open-gap-gap.ensures in
+    let opened = c.open_gap-gap.ensures in
     (gap_filled c.args.sheet.parts _ c.fill.result.parts Rows _ c.args.i c.args.n _ _ _ c.args.list.now c.args.v opened.gap opened.place c.fill.ensures).state
