@@ -1,49 +1,11 @@
 use self::Call::*;
-use journal::parts::{Entry, Note, Run, Side};
+use super::tests::{Marked, NO_ENTRY, NO_RUN, note, same_marks};
+use journal::parts::{Entry, Run};
 use layout::refusal::Refusal;
 use layout::storage::Layout;
 use layout::vec_storage::Dense;
-use sheet::cell::WeighingNote;
 use sheet::sheet::Sheet;
 use std::process::Abort;
-
-// A kind of cell that a number can be written into and read out of again.
-trait Marked {
-    fn of(n: u32) -> Self;
-
-    fn mark(&self) -> u32;
-}
-
-impl Marked for u32 {
-    fn of(n: u32) -> u32 {
-        n
-    }
-
-    fn mark(&self) -> u32 {
-        *self
-    }
-}
-
-// A note whose parts do not belong together has the mark 999.
-impl Marked for WeighingNote {
-    fn of(n: u32) -> WeighingNote {
-        WeighingNote {
-            ticket: n,
-            kilograms: n ^ 1000,
-            quality: (n % 26) as u8 + b'a',
-        }
-    }
-
-    fn mark(&self) -> u32 {
-        if self.kilograms == self.ticket ^ 1000
-            && u32::from(self.quality) == self.ticket % 26 + 97
-        {
-            self.ticket
-        } else {
-            999
-        }
-    }
-}
 
 #[derive(Clone, Copy)]
 enum Call<'c> {
@@ -75,26 +37,6 @@ const SAME: After<'static> = After {
     saved: &[],
     runs: &[],
 };
-
-const NO_ENTRY: Entry = Entry {
-    note: Note::Removal(Side::Rows, 0, 0),
-    rows: 0,
-    columns: 0,
-    runs: 0,
-    cells: 0,
-};
-
-const NO_RUN: Run = Run {
-    offset: 0,
-    length: 0,
-};
-
-fn same_marks<T: Marked>(rt: &impl Abort, cells: &[T], marks: &[u32]) {
-    assert_eq!(rt; cells.len(), marks.len());
-    for (cell, mark) in cells.iter().zip(marks) {
-        assert_eq!(rt; cell.mark(), *mark);
-    }
-}
 
 fn same_runs(rt: &impl Abort, runs: &[Run], pairs: &[(u32, u32)]) {
     assert_eq!(rt; runs.len(), pairs.len());
@@ -143,10 +85,6 @@ fn answers<T: Copy + Marked>(
     same_marks(rt, sheet.saved(), after.saved);
     same_runs(rt, sheet.runs(), after.runs);
     assert_eq!(rt; sheet.entries().len(), if answer.is_ok() { 1 } else { 0 });
-}
-
-fn note(n: u32) -> WeighingNote {
-    WeighingNote::of(n)
 }
 
 fn both_kinds(rt: &impl Abort, call: Call<'_>, answer: Result<(), Refusal>, after: After<'_>) {

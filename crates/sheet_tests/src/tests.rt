@@ -7,7 +7,7 @@ use sheet::sheet::Sheet;
 use std::process::Abort;
 
 // A kind of cell that a number can be written into and read out of again.
-trait Marked {
+pub(crate) trait Marked {
     fn of(n: u32) -> Self;
 
     fn mark(&self) -> u32;
@@ -61,7 +61,7 @@ struct Example<'e> {
     runs: &'e [Run],
 }
 
-const NO_ENTRY: Entry = Entry {
+pub(crate) const NO_ENTRY: Entry = Entry {
     note: Note::Removal(Side::Rows, 0, 0),
     rows: 0,
     columns: 0,
@@ -69,12 +69,12 @@ const NO_ENTRY: Entry = Entry {
     cells: 0,
 };
 
-const NO_RUN: Run = Run {
+pub(crate) const NO_RUN: Run = Run {
     offset: 0,
     length: 0,
 };
 
-fn same_marks<T: Marked>(rt: &impl Abort, cells: &[T], marks: &[u32]) {
+pub(crate) fn same_marks<T: Marked>(rt: &impl Abort, cells: &[T], marks: &[u32]) {
     assert_eq!(rt; cells.len(), marks.len());
     for (cell, mark) in cells.iter().zip(marks) {
         assert_eq!(rt; cell.mark(), *mark);
@@ -115,7 +115,7 @@ fn holds<T: Copy + Marked>(
     assert_eq!(rt; sheet.entries().len(), if e.answer.is_ok() { 1 } else { 0 });
 }
 
-fn note(n: u32) -> WeighingNote {
+pub(crate) fn note(n: u32) -> WeighingNote {
     WeighingNote::of(n)
 }
 
