@@ -24,11 +24,11 @@ use Rattle.gaps.proofs.Questions.{gap_counts}
 use Rattle.gaps.proofs.Cells.{row_cells, column_cells}
 
 module _ {A : Type 0} where
-  apart_long : (side : Side) (xs ys : List A) (rows columns i n : ℕ) → Apart side xs ys rows columns i n → length ys ≡ length xs
+  pub apart_long : (side : Side) (xs ys : List A) (rows columns i n : ℕ) → Apart side xs ys rows columns i n → length ys ≡ length xs
   apart_long Rows xs ys rows columns i n h = h.long
   apart_long Columns xs ys rows columns i n h = h.long
 
-  written_long : (side : Side) (xs ys : List A) (rows columns i n : ℕ) (vs : List A) (v : A) → Written side xs ys rows columns i n vs v → length ys ≡ length xs
+  pub written_long : (side : Side) (xs ys : List A) (rows columns i n : ℕ) (vs : List A) (v : A) → Written side xs ys rows columns i n vs v → length ys ≡ length xs
   written_long Rows xs ys rows columns i n vs v h = h.long
   written_long Columns xs ys rows columns i n vs v h = h.long
 

@@ -3,11 +3,11 @@ use Rattle.std.proofs.Common.{◌≡◌, ℕ, ◌≤◌, List, [], ◌∷◌, le
 use Rattle.layout.specs.declared.refusal.Refusal.{Refusal}
 use Rattle.model.specs.Journal.{Sheet, Entry, Answer, done, refused, verdict, after, Call, change, undo, settle, unless, taken_back, step}
 use Rattle.journal.specs.declared.parts.Side.{Side}
-use Rattle.journal.specs.declared.parts.Side.TheVariants.{Rows, Columns}
 use Rattle.journal.specs.declared.parts.Parts.{Parts}
 use Rattle.journal.specs.View.{view}
 use Rattle.journal.specs.Answering.{Answers}
-use Rattle.gaps.specs.Gaps.{Apart, Gap, Opened, Written}
+use Rattle.gaps.specs.Gaps.{Gap, Opened}
+use Rattle.gaps.proofs.Joining.{apart_long}
 
 room_unless : {A : Type 0} (a : Answer) (s t : Sheet A) → t.room ≡ s.room → (unless a s t).0.room ≡ s.room
 room_unless done s t e = e
@@ -27,12 +27,7 @@ pub still_small :
 still_small p q c r h small =
     subst (λ z. z ≤ 65536) (sym (ap (λ s. s.room.for_cells) h.state ∙ ap (λ z. z.for_cells) (room_kept (view p) c))) small
 
--- opening a gap and filling it move and write cells, and no more
-
-apart_long : {A : Type 0} (side : Side) (xs ys : List A) (rows columns i n : ℕ) → Apart side xs ys rows columns i n → length ys ≡ length xs
-apart_long Rows xs ys rows columns i n h = h.long
-apart_long Columns xs ys rows columns i n h = h.long
-
+-- opening a gap moves cells, and no more
 opened_long : {A : Type 0} (p q : Parts A) (side : Side) (i n : ℕ) (r : Result Unit Refusal) → Opened p q side i n r → length q.cells.now ≡ length p.cells.now
 opened_long p q side i n (Ok u) h = apart_long side p.cells.now q.cells.now p.rows p.columns i n h.cells
 opened_long p q side i n (Err e) h = ap (λ z. length z.cells.now) h
@@ -40,8 +35,3 @@ opened_long p q side i n (Err e) h = ap (λ z. length z.cells.now) h
 pub gap_small :
     {A : Type 0} (p q : Parts A) (side : Side) (i n : ℕ) (r : Result Unit Refusal) → Gap p q side i n r → length p.cells.now ≤ 65536 → length q.cells.now ≤ 65536
 gap_small p q side i n r h small = subst (λ z. z ≤ 65536) (sym (opened_long p q side i n r h.opened)) small
-
-pub written_long :
-    {A : Type 0} (side : Side) (xs ys : List A) (rows columns i n : ℕ) (vs : List A) (v : A) → Written side xs ys rows columns i n vs v → length ys ≡ length xs
-written_long Rows xs ys rows columns i n vs v h = h.long
-written_long Columns xs ys rows columns i n vs v h = h.long

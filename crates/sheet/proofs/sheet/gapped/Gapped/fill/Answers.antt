@@ -1,6 +1,5 @@
 use Rattle.std.proofs.Common.{◌≤◌, sym, subst}
-use Rattle.gaps.proofs.Joining.{fills, fills_none, filled_reachable, filled_tops, roomy}
-use Rattle.sheet.proofs.Keeping.{written_long}
+use Rattle.gaps.proofs.Joining.{fills, fills_none, filled_reachable, filled_tops, roomy, written_long}
 use Rattle.sheet.proofs.sheet.gapped.Gapped.fill.Goals as goal
 
 pub invariant_of-result : goal.invariant_of-result
