@@ -2,4 +2,4 @@ use Rattle.std.proofs.Common.{◌≡◌, length}
 use Rattle.layout_tests.proofs.tests.all_rows_picked.Given as goal
 
 abbrev pub invariant-loop-k : goal.invariant-loop-k
-invariant-loop-k l = length l.list ≡ 4096
+invariant-loop-k g l = length l.list ≡ 4096
