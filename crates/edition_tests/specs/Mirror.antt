@@ -1,5 +1,5 @@
 -- A layout with its columns in the opposite order.
-use Rattle.std.specs.Prelude.{◌≡◌, ℕ, ◌-◌}
+use Rattle.std.specs.Prelude.{◌-◌}
 use Rattle.std.proofs.Common.{arith}
 use Rattle.layout.specs.Lawful.{Grid, Lawful}
 
