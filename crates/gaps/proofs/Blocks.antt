@@ -1,5 +1,5 @@
 -- Steps that write a list, and a value behind it, into blocks of cells.
-use Rattle.std.proofs.Common.{◌≡◌, ℕ, ◌+◌, ◌-◌, ◌*◌, ◌<◌, ◌≤◌, List, length, sym, ◌∙◌, inl, inr, mul_comm, arith}
+use Rattle.std.proofs.Common.{◌≡◌, ℕ, ◌+◌, ◌-◌, ◌*◌, ◌<◌, ◌≤◌, List, length, sym, ◌∙◌, inl, inr, arith}
 use Rattle.std.proofs.lemmas.List.{get_or_default, get_or_past}
 use Rattle.std.proofs.lemmas.Bool.{cases_lt}
 use Rattle.moves.specs.Slides.{Copied, Filled}
@@ -26,11 +26,6 @@ module _ {X : Type 0} (xs ys zs vs : List X) (from len skip : ℕ) (v : X) where
     below = λ k d h. t.below k d (omega arith) ∙ s.below k d h;
     above = λ k d h. t.above k d (omega arith) ∙ s.above k d (omega arith);
   }
-
-module _ (rows columns i n : ℕ) (gap : i + n ≤ rows) where
-  -- the gap's part of a column lies in the table
-  pub part_room : (c : ℕ) → c < columns → i + c * rows + n ≤ rows * columns
-  part_room c h = omega (arith, columns_lt c columns rows h, mul_comm rows columns)
 
 module _ {X : Type 0} (xs ys zs : List X) (rows i n : ℕ) (vs : List X) (v : X) (gap : i + n ≤ rows) where
   -- one column more

@@ -14,12 +14,12 @@ use Rattle.journal.specs.declared.parts.Side.TheVariants.{Rows, Columns}
 use Rattle.journal.specs.declared.parts.Note.{Note}
 use Rattle.journal.specs.declared.parts.Tops.{Tops}
 use Rattle.journal.specs.declared.parts.Parts.{Parts}
-use Rattle.journal.specs.View.{TopsFit, run_of, side_of, table_of, view}
+use Rattle.journal.specs.View.{TopsFit, run_of, side_of, table_of, view, lines_in}
 use Rattle.journal.specs.Entering.{entry_for}
 use Rattle.journal.specs.Answering.{Answers, Held, Performed}
 use Rattle.journal.proofs.Asking.{verdict_is}
 use Rattle.journal.proofs.Answering.{accepts, no_run, nothing_lost, refuses}
-use Rattle.gaps.specs.Gaps.{Apart, Written, Roomy, Parted, Left, Filled, Fills, rows_grown, columns_grown, lines_in}
+use Rattle.gaps.specs.Gaps.{Apart, Written, Roomy, Parted, Left, Filled, Fills, rows_grown, columns_grown}
 use Rattle.gaps.proofs.Questions.{gap_counts}
 use Rattle.gaps.proofs.Cells.{row_cells, column_cells}
 

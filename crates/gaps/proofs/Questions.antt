@@ -9,10 +9,10 @@ use Rattle.model.proofs.Gaps.{row_gap, column_gap}
 use Rattle.journal.specs.declared.parts.Side.{Side}
 use Rattle.journal.specs.declared.parts.Side.TheVariants.{Rows, Columns}
 use Rattle.journal.specs.declared.parts.Parts.{Parts}
-use Rattle.journal.specs.View.{answered, side_of, table_of, view}
+use Rattle.journal.specs.View.{answered, side_of, table_of, view, lines_in}
 use Rattle.journal.specs.Asking.{rooms}
 use Rattle.journal.proofs.Asking.{fails, verdict_is}
-use Rattle.gaps.specs.Gaps.{Asked, lines_in, rows_grown, columns_grown}
+use Rattle.gaps.specs.Gaps.{Asked, rows_grown, columns_grown}
 
 module _ {A : Type 0} (p : Parts A) where
   pub gap_counts :

@@ -9,15 +9,11 @@ use Rattle.journal.specs.declared.parts.Side.{Side}
 use Rattle.journal.specs.declared.parts.Side.TheVariants.{Rows, Columns}
 use Rattle.journal.specs.declared.parts.Note.{Note}
 use Rattle.journal.specs.declared.parts.Parts.{Parts}
-use Rattle.journal.specs.View.{answered, side_of, view}
+use Rattle.journal.specs.View.{answered, lines_in, side_of, view}
 use Rattle.journal.specs.Asking.{Fits}
 use Rattle.journal.specs.Entering.{entry_for}
 use Rattle.journal.specs.Answering.{Answers, Held}
 use Rattle.gaps.specs.Taken.{Taken, RowsTaken}
-
-abbrev pub lines_in : Side → (rows columns : ℕ) → ℕ
-lines_in Rows rows columns = rows
-lines_in Columns rows columns = columns
 
 -- the shape with n lines more
 abbrev pub rows_grown : Side → (n rows : ℕ) → ℕ

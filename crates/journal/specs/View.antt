@@ -69,6 +69,15 @@ abbrev pub TopsFit : {A : Type 0} → Parts A → Type 0
 TopsFit p =
     (p.tops.entries ≤ length p.entries.now) × (p.tops.runs ≤ length p.runs.now) × (p.tops.saved ≤ length p.saved.now)
 
+-- so few places for cells that a dense layout over them is lawful
+abbrev pub FewCells : {A : Type 0} → Parts A → Type 0
+FewCells p = length p.cells.now ≤ 65536
+
+-- how many lines the side has
+abbrev pub lines_in : Side → (rows columns : ℕ) → ℕ
+lines_in Rows rows columns = rows
+lines_in Columns rows columns = columns
+
 -- the number of the first question that was answered no, or none
 abbrev pub answered : Result Unit Refusal → Answer
 answered (Ok _) = done

@@ -1,14 +1,15 @@
 -- Listed lines taken out, from runs of cells to the model's tables.
 use Rattle.std.proofs.Common.{◌≡◌, ℕ, zero, suc, ◌+◌, ◌-◌, ◌*◌, ◌<◌, ◌≤◌, Bool, true, false, cond, not, eqb, List, [], ◌∷◌, ◌++◌, length, take, drop, filter, sym, refl, ap, ◌∙◌, ap₂, append-nil, suc-mul, add-mul, one-mul, zero-mul, mul-one, arith}
-use Rattle.std.specs.List.{range_with_len, flat_map, AllByRecursion as All}
+use Rattle.std.specs.List.{range_with_len, flat_map}
 use Rattle.std.proofs.lemmas.List.{drop-drop, take_all}
 use Rattle.std.proofs.lemmas.Bool.{eqb-true}
 use Rattle.moves.specs.Slides.{Copied}
 use Rattle.model.specs.Sheet.{listed, row, column, remove_listed, Table, cell_at, changed}
 use Rattle.model.specs.Journal.{begun, runs_from, lines_of, lost_of}
 use Rattle.model.proofs.Grids.{one_column, joined-++, take_then, all_counting}
-use Rattle.model.proofs.Joins.{cell_of_lem}
-use Rattle.model.proofs.Listed.{runs_lines, selected, kept, all_below_lem, rows_listed_cells, rows_listed_lost, columns_listed_cells, columns_listed_lost}
+use Rattle.model.proofs.Edits.{lines_runs}
+use Rattle.model.proofs.Joins.{cell_of_lem, joined_same}
+use Rattle.model.proofs.Listed.{selected, kept, all_below_lem, rows_listed_cells, rows_listed_lost, columns_listed_cells, columns_listed_lost}
 use Rattle.listed.specs.Runs.{Rising}
 use Rattle.listed.specs.Cuts.{Behind, between, taken, taken_of}
 use Rattle.listed.proofs.Walks.{runs_rising}
@@ -72,10 +73,6 @@ lines_taken w xs [] = refl
 lines_taken w xs (r ∷ rs) =
     joined-++ (λ l. take w (drop (l * w) xs)) (range_with_len r.0 r.1) (lines_of rs) ∙ ap₂ ◌++◌ (lines_back xs w r.1 r.0) (lines_taken w xs rs)
 
-joined_same : {X A : Type 0} (f g : X → List A) (xs : List X) → All (λ x. f x ≡ g x) xs → flat_map f xs ≡ flat_map g xs
-joined_same f g [] h = refl
-joined_same f g (x ∷ xs) h = ap₂ ◌++◌ h.0 (joined_same f g xs h.1)
-
 by_columns : {A : Type 0} (t : Table A) (ks ls : List ℕ) → selected t ks ls ≡ flat_map (λ c. flat_map (λ r. cell_at t r c) ks) ls
 by_columns t ks [] = refl
 by_columns t ks (l ∷ ls) = one_column (λ (q : ℕ × ℕ). cell_at t q.0 q.1) ks l ls ∙ ap (λ z. flat_map (λ r. cell_at t r l) ks ++ z) (by_columns t ks ls)
@@ -121,14 +118,14 @@ module _ {A : Type 0} (t : Table A) (xs : List A) (lies : t.cells ≡ take (t.ro
 
   module _ (ks : List ℕ) (size : ℕ) where
     pub rows_lost : size ≡ t.rows → taken_of 1 size 0 t.columns xs (runs_from (listed ks) 0 t.rows) ≡ lost_of t (remove_listed row ks)
-    rows_lost e = sym (rows_listed_lost t ks ∙ rows_taken (listed ks) size (runs_from (listed ks) 0 t.rows) e (runs_lines (listed ks) t.rows 0))
+    rows_lost e = sym (rows_listed_lost t ks ∙ rows_taken (listed ks) size (runs_from (listed ks) 0 t.rows) e (lines_runs (listed ks) 0 t.rows))
 
     pub rows_left : size ≡ t.rows → taken_of 1 size 0 t.columns xs (between 0 (runs_from (listed ks) 0 t.rows) t.rows) ≡ (changed t (remove_listed row ks)).cells
     rows_left e =
         sym (rows_listed_cells t ks ∙ rows_taken (λ k. not (listed ks k)) size (between 0 (runs_from (listed ks) 0 t.rows) t.rows) e (kept_lines ks t.rows))
 
     pub columns_lost : taken_of t.rows size 0 1 xs (runs_from (listed ks) 0 t.columns) ≡ lost_of t (remove_listed column ks)
-    columns_lost = sym (columns_listed_lost t ks ∙ columns_taken (listed ks) size (runs_from (listed ks) 0 t.columns) (runs_lines (listed ks) t.columns 0))
+    columns_lost = sym (columns_listed_lost t ks ∙ columns_taken (listed ks) size (runs_from (listed ks) 0 t.columns) (lines_runs (listed ks) 0 t.columns))
 
     pub columns_left : taken_of t.rows size 0 1 xs (between 0 (runs_from (listed ks) 0 t.columns) t.columns) ≡ (changed t (remove_listed column ks)).cells
     columns_left =

@@ -1,13 +1,13 @@
 -- The removal of listed lines in numbers: its runs, what it leaves, what it loses.
-use Rattle.std.proofs.Common.{◌≡◌, ℕ, zero, suc, ◌+◌, ◌-◌, ◌*◌, ◌<◌, ◌≤◌, Bool, true, false, cond, not, eqb, List, [], ◌∷◌, ◌++◌, map, length, filter, sym, refl, ap, ◌∙◌, ap₂, append-nil, arith}
+use Rattle.std.proofs.Common.{◌≡◌, ℕ, zero, suc, ◌+◌, ◌-◌, ◌*◌, ◌<◌, ◌≤◌, Bool, true, false, cond, not, List, [], ◌∷◌, ◌++◌, map, length, filter, sym, refl, ap, ◌∙◌, ap₂, append-nil, arith}
 use Rattle.std.specs.List.{range_with_len, flat_map, AllByRecursion as All}
 use Rattle.std.proofs.lemmas.List.{length-map}
 use Rattle.std.proofs.lemmas.List.FromFn.{length-range_with_len}
 use Rattle.std.proofs.ByRecursion.{all_kept_by}
-use Rattle.std.proofs.lemmas.Bool.{eqb-true}
 use Rattle.model.specs.Sheet.{old, listed, row, column, Change, remove_listed, Table, cell_at, cell_of, pairs, rows_of, columns_of, changed}
 use Rattle.model.specs.Journal.{Right, begun, runs_from, lines_of, runs_of, lost_of, named_in, has_column}
 use Rattle.model.proofs.Grids.{Single, one_column, joined_map, length_grid, single_cell, all_counting}
+use Rattle.model.proofs.Edits.{lines_runs}
 use Rattle.model.proofs.Lines.{keep_length, keep_stays, others_stays}
 use Rattle.model.proofs.Regions.{lost_rows, lost_columns}
 use Rattle.model.proofs.Counting.{Counts}
@@ -18,31 +18,6 @@ pub runs_same : (p q : ℕ → Bool) (n a : ℕ) → ((k : ℕ) → a ≤ k → 
 runs_same p q zero a h = refl
 runs_same p q (suc n) a h =
     ap₂ (λ b zs. cond b (begun a zs) zs) (h a (omega arith) (omega arith)) (runs_same p q n (a + 1) (λ k l m. h k (omega arith) (omega arith)))
-
-lines_begun : (a : ℕ) (rs : List (ℕ × ℕ)) → lines_of (begun a rs) ≡ a ∷ lines_of rs
-lines_begun a [] = refl
-lines_begun a (r ∷ rs) = go (eqb r.0 (suc a)) refl
-  where
-    go :
-        (b : Bool) → eqb r.0 (suc a) ≡ b
-        → lines_of (cond b ((a, suc r.1) ∷ rs) ((a, 1) ∷ r ∷ rs)) ≡ a ∷ lines_of (r ∷ rs)
-    go true e =
-        let f = eqb-true r.0 (suc a) e in
-        let g : a + 1 ≡ r.0 = omega arith in
-        ap (λ k. a ∷ (range_with_len k r.1 ++ lines_of rs)) g
-    go false e = refl
-
--- the lines of the runs are the lines that pass
-pub runs_lines : (p : ℕ → Bool) (n a : ℕ) → lines_of (runs_from p a n) ≡ filter p (range_with_len a n)
-runs_lines p zero a = refl
-runs_lines p (suc n) a = go (p a) (runs_lines p n (a + 1))
-  where
-    go :
-        (b : Bool) → lines_of (runs_from p (a + 1) n) ≡ filter p (range_with_len (a + 1) n)
-        → lines_of (cond b (begun a (runs_from p (a + 1) n)) (runs_from p (a + 1) n))
-        ≡ cond b (a ∷ filter p (range_with_len (a + 1) n)) (filter p (range_with_len (a + 1) n))
-    go true ih = lines_begun a (runs_from p (a + 1) n) ∙ ap (λ z. a ∷ z) ih
-    go false ih = ih
 
 -- each line passes or not
 kept_or_not : (p : ℕ → Bool) (xs : List ℕ) → length (filter (λ k. not (p k)) xs) + length (filter p xs) ≡ length xs
@@ -68,7 +43,7 @@ abbrev pub kept : List ℕ → ℕ → List ℕ
 kept ks m = filter (λ k. not (listed ks k)) (range_with_len 0 m)
 
 gone_count : (ks : List ℕ) (m : ℕ) → length (gone ks m) ≡ goes ks m
-gone_count ks m = ap length (sym (runs_lines (listed ks) m 0))
+gone_count ks m = ap length (sym (lines_runs (listed ks) 0 m))
 
 kept_count : (ks : List ℕ) (m : ℕ) → length (map old (kept ks m)) ≡ m - goes ks m
 kept_count ks m =

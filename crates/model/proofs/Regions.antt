@@ -2,6 +2,7 @@
 use Rattle.std.proofs.Common.{◌≡◌, ℕ, ◌+◌, ◌*◌, ◌<◌, ◌≤◌, Bool, true, false, cond, not, ◌&&◌, List, [], ◌∷◌, ◌++◌, take, drop, filter, sym, refl, ap, ◌∙◌, ap₂, arith}
 use Rattle.std.specs.List.{range_with_len, flat_map, AllByRecursion as All}
 use Rattle.std.proofs.lemmas.List.FromFn.{length-range_with_len, get_or-range_with_len}
+use Rattle.std.proofs.Math.Bool.{and-true}
 use Rattle.model.specs.Sheet.{Change, Table, cell_at, pairs, rows_of, columns_of}
 use Rattle.model.specs.Journal.{Right, survives, stays, lost_of}
 use Rattle.model.proofs.Grids.{Single, Singles, one_column, length_grid, grid_at, single_cell, all_counting}
@@ -69,11 +70,7 @@ lost_rows t ch gone hr hc =
     rows_lost (stays (rows_of t ch) (columns_of t ch)) gone (λ (q : ℕ × ℕ). cell_at t q.0 q.1) (range_with_len 0 t.rows) (range_with_len 0 t.columns)
     (all_counting (λ l. All (λ k. stays (rows_of t ch) (columns_of t ch) (k, l) ≡ not (gone k)) (range_with_len 0 t.rows)) 0 t.columns (λ l a b.
     all_counting (λ k. stays (rows_of t ch) (columns_of t ch) (k, l) ≡ not (gone k)) 0 t.rows (λ k c d.
-    ap₂ ◌&&◌ (hr k (omega arith)) (hc l (omega arith)) ∙ and_true (not (gone k)))))
-  where
-    and_true : (b : Bool) → (b && true) ≡ b
-    and_true true = refl
-    and_true false = refl
+    ap₂ ◌&&◌ (hr k (omega arith)) (hc l (omega arith)) ∙ and-true (not (gone k)))))
 
 all_of : {X : Type 0} (xs : List X) → filter (λ x. true) xs ≡ xs
 all_of [] = refl

@@ -4,6 +4,7 @@ use Rattle.std.specs.List.{range_with_len, flat_map, AllByRecursion as All}
 use Rattle.std.proofs.lemmas.List.FromFn.{length-map-range_with_len, get_or-map-range_with_len}
 use Rattle.std.proofs.ByRecursion.{All-map}
 use Rattle.std.proofs.lemmas.Bool.{lt-ltb, le-ltb, le-leb, lt-leb, cases_lt, cond-true, cond-false, and_from, and_left, and_right, ne_eqb, not_from_true, not_from_false}
+use Rattle.std.proofs.Math.Bool.{and-true}
 use Rattle.model.specs.Sheet.{Origin, old, new, resize, sized, within, origins, Change, resize_to, Table, cell_at, pairs, rows_of, columns_of}
 use Rattle.model.specs.Journal.{Right, is_old, stands, survives, stays, lost_of}
 use Rattle.model.proofs.Grids.{joined-++, all_counting}
@@ -76,7 +77,7 @@ module _ {A : Type 0} (t : Table A) (ch : Change A) (a b : ℕ) (rows : a ≤ t.
       (rows_lost s (within a (R - a)) cell (range_with_len 0 R) (range_with_len 0 b)
       (all_counting (λ l. All (λ k. s (k, l) ≡ not (within a (R - a) k)) (range_with_len 0 R)) 0 b (λ l x y.
       all_counting (λ k. s (k, l) ≡ not (within a (R - a) k)) 0 R (λ k z w.
-      ap₂ ◌&&◌ (below k (omega arith)) (left l (omega arith)) ∙ and_true (not (within a (R - a) k)))))
+      ap₂ ◌&&◌ (below k (omega arith)) (left l (omega arith)) ∙ and-true (not (within a (R - a) k)))))
       ∙ ap (λ ks. flat_map cell (pairs ks (range_with_len 0 b))) (gone_are a (R - a) R (omega arith)))
       (rows_lost s (λ k. true) cell (range_with_len 0 R) (range_with_len (0 + b) (t.columns - b))
       (all_counting (λ l. All (λ k. s (k, l) ≡ false) (range_with_len 0 R)) (0 + b) (t.columns - b) (λ l x y.
@@ -84,10 +85,6 @@ module _ {A : Type 0} (t : Table A) (ch : Change A) (a b : ℕ) (rows : a ≤ t.
       and_right (survives k (rows_of t ch)) (survives l (columns_of t ch)) (behind l (omega arith) (omega arith)))))
       ∙ ap (λ ks. flat_map cell (pairs ks (range_with_len (0 + b) (t.columns - b)))) (kept_all (λ k. true) (range_with_len 0 R) (all_counting (λ k. true ≡ true) 0 R (λ k z w. refl)))
       ∙ ap (λ k. flat_map cell (pairs (range_with_len 0 R) (range_with_len k (t.columns - b)))) (let e : 0 + b ≡ b = omega arith in e))
-    where
-      and_true : (b : Bool) → (b && true) ≡ b
-      and_true true = refl
-      and_true false = refl
 
 -- the cells outside a corner of a rows and b columns: those below it and those behind it
 pub outside : (R C a b : ℕ) → a ≤ R → b ≤ C → (R - a) * b + R * (C - b) ≡ R * C - a * b

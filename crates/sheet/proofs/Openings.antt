@@ -14,7 +14,7 @@ use Rattle.model.proofs.Grids.{Single, Singles, length_grid, grid_at, all_counti
 use Rattle.model.proofs.Joins.{table_cells, same_cell}
 use Rattle.model.proofs.Reaching.{opened_reached}
 use Rattle.journal.specs.declared.parts.Parts.{Parts}
-use Rattle.journal.specs.View.{TopsFit, room_of, view}
+use Rattle.journal.specs.View.{TopsFit, room_of, view, FewCells}
 use Rattle.sheet.specs.Opening.{Filled, opening_rules, table_in}
 
 module _ {A : Type 0} (grid : Grid) (law : Lawful grid) (xs : List A) (reached : grid.span ≤ length xs) where
@@ -63,7 +63,7 @@ module _ {A : Type 0} (grid : Grid) (law : Lawful grid) (xs : List A) (reached :
 -- what stands in the buffers once they are filled
 module _ {A : Type 0} (grid : Grid) (law : Lawful grid) (source : List A) (p q : Parts A) (w : Filled grid source p q)
     (rules : Passes (opening_rules grid (length source) (room_of p))) where
-  pub filled_ghosts : TopsFit q × Reachable (view q) × (length q.cells.now ≤ 65536)
+  pub filled_ghosts : TopsFit q × Reachable (view q) × FewCells q
   filled_ghosts = (
     w.tops,
     subst Reachable (sym w.state) (opened_reachable grid law source rules.1.1.1.0 (room_of p) rules.1.1.0),
@@ -72,12 +72,12 @@ module _ {A : Type 0} (grid : Grid) (law : Lawful grid) (source : List A) (p q :
 
 -- and where that was asked first
 pub refilled_ghosts :
-    {A : Type 0} (grid : Grid) → Lawful grid → (source : List A) (p q : Parts A) (r : Result Unit Refusal) → TopsFit p → Reachable (view p) → length p.cells.now ≤ 65536
+    {A : Type 0} (grid : Grid) → Lawful grid → (source : List A) (p q : Parts A) (r : Result Unit Refusal) → TopsFit p → Reachable (view p) → FewCells p
     → Checked (opening_rules grid (length source) (room_of p)) r → MatchResult r (λ _. Filled grid source p q) (λ _. q ≡ p)
-    → TopsFit q × Reachable (view q) × (length q.cells.now ≤ 65536)
-refilled_ghosts grid law source p q (Ok u) tops reachable small rules w = filled_ghosts grid law source p q w rules
-refilled_ghosts {A} grid law source p q (Err e) tops reachable small rules same = (
+    → TopsFit q × Reachable (view q) × FewCells q
+refilled_ghosts grid law source p q (Ok u) tops reachable few rules w = filled_ghosts grid law source p q w rules
+refilled_ghosts {A} grid law source p q (Err e) tops reachable few rules same = (
   subst (λ (z : Parts A). TopsFit z) (sym same) tops,
   subst (λ (z : Parts A). Reachable (view z)) (sym same) reachable,
-  subst (λ (z : Parts A). length z.cells.now ≤ 65536) (sym same) small,
+  subst (λ (z : Parts A). FewCells z) (sym same) few,
 )

@@ -1,6 +1,5 @@
-ghost use Rattle.std.specs.Prelude.{◌≤◌, length};
 ghost use Rattle.model.specs.Reached.{Reachable};
-ghost use Rattle.journal.specs.View.{view, TopsFit};
+ghost use Rattle.journal.specs.View.{view, FewCells, TopsFit};
 
 use journal::parts::Parts;
 
@@ -13,5 +12,5 @@ pub struct Sheet<'a, T> {
     parts: Parts<'a, T>,
     ghost tops: { TopsFit parts },
     ghost reachable: { Reachable (view parts) },
-    ghost small: { length parts.cells.now ≤ 65536 },
+    ghost few: { FewCells parts },
 }

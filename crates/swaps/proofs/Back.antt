@@ -12,11 +12,11 @@ use Rattle.journal.specs.declared.parts.Side.TheVariants.{Rows, Columns}
 use Rattle.journal.specs.declared.parts.Note.TheVariants.{Exchange}
 use Rattle.journal.specs.declared.parts.Entry.{Entry}
 use Rattle.journal.specs.declared.parts.Parts.{Parts}
-use Rattle.journal.specs.View.{note_of, side_of, view}
+use Rattle.journal.specs.View.{note_of, side_of, view, lines_in}
 use Rattle.journal.specs.Answering.{Held}
 use Rattle.leaving.specs.Leaving as leaving
 use Rattle.leaving.proofs.Undoing.{by_change, its_entry}
-use Rattle.swaps.specs.Exchange.{Swapped, lines_of}
+use Rattle.swaps.specs.Exchange.{Swapped}
 use Rattle.swaps.proofs.Exchanging.{counts, exchanged_back}
 
 -- the note tells the change
@@ -29,7 +29,7 @@ was_exchange side i j (fill_lines s a b vs v) h = absurd (let z : ◌≡◌ {A =
 was_exchange side i j (resize_to a b v) h = absurd (let z : ◌≡◌ {A = ℕ} 0 1 = cc in omega arith)
 
 named_there : {A : Type 0} (side : Side) (t : Table A) (i j : ℕ) → named_in t (swap_lines (side_of side) i j) ≡ true
-    → (i < lines_of side t.rows t.columns) × (j < lines_of side t.rows t.columns)
+    → (i < lines_in side t.rows t.columns) × (j < lines_in side t.rows t.columns)
 named_there Rows t i j h =
     let b = and_parts (ltb i t.rows) (ltb j t.rows) (and_parts (ltb i t.rows && ltb j t.rows) true h).0 in
     (ltb-true i t.rows b.0, ltb-true j t.rows b.1)
@@ -44,7 +44,7 @@ module _ {A : Type 0} (p : Parts A) (e : Entry) (held : Held p) (is : leaving.Ne
     change_is : w.last ≡ swap_lines (side_of side) i j
     change_is = was_exchange side i j w.last (ap note_of (sym noted) ∙ ap (λ (z : model.Entry). z.note) (its_entry p e held is w))
 
-    there : (i < lines_of side w.former.table.rows w.former.table.columns) × (j < lines_of side w.former.table.rows w.former.table.columns)
+    there : (i < lines_in side w.former.table.rows w.former.table.columns) × (j < lines_in side w.former.table.rows w.former.table.columns)
     there = named_there side w.former.table i j (ap (named_in w.former.table) (sym change_is) ∙ newest_named (view p) w)
 
     table_is : (view p).table ≡ changed w.former.table (swap_lines (side_of side) i j)
@@ -56,13 +56,13 @@ module _ {A : Type 0} (p : Parts A) (e : Entry) (held : Held p) (is : leaving.Ne
     columns_are : p.columns ≡ w.former.table.columns
     columns_are = ap (λ (z : Table A). z.columns) table_is ∙ (counts side w.former.table i j there.0 there.1).columns
 
-    lines_are : lines_of side w.former.table.rows w.former.table.columns ≡ lines_of side p.rows p.columns
-    lines_are = ap₂ (lines_of side) (sym rows_are) (sym columns_are)
+    lines_are : lines_in side w.former.table.rows w.former.table.columns ≡ lines_in side p.rows p.columns
+    lines_are = ap₂ (lines_in side) (sym rows_are) (sym columns_are)
 
-  pub lines_there : (i < lines_of side p.rows p.columns) × (j < lines_of side p.rows p.columns)
+  pub lines_there : (i < lines_in side p.rows p.columns) × (j < lines_in side p.rows p.columns)
   lines_there = (
-    by_change p e held is (suc i) (lines_of side p.rows p.columns) (λ w. subst (λ z. i < z) (lines_are w) (there w).0),
-    by_change p e held is (suc j) (lines_of side p.rows p.columns) (λ w. subst (λ z. j < z) (lines_are w) (there w).1),
+    by_change p e held is (suc i) (lines_in side p.rows p.columns) (λ w. subst (λ z. i < z) (lines_are w) (there w).0),
+    by_change p e held is (suc j) (lines_in side p.rows p.columns) (λ w. subst (λ z. j < z) (lines_are w) (there w).1),
   )
 
   pub swapped_back : (zs : List A) → p.rows * p.columns ≤ length p.cells.now → Swapped side (dense p.rows p.columns) p.cells.now zs i j

@@ -12,8 +12,8 @@ use Rattle.model.proofs.Joins.{former_cell, lying, same_cell, table_cells}
 use Rattle.model.proofs.Lines.{keep_at}
 use Rattle.journal.specs.declared.parts.Side.{Side}
 use Rattle.journal.specs.declared.parts.Side.TheVariants.{Rows, Columns}
-use Rattle.journal.specs.View.{side_of}
-use Rattle.swaps.specs.Exchange.{Swapped, lines_of}
+use Rattle.journal.specs.View.{side_of, lines_in}
+use Rattle.swaps.specs.Exchange.{Swapped}
 
 -- of the two lines the other one comes
 other_is : (i j k : ℕ) → (k ≡ i) ⊎ (k ≡ j) → other i j k ≡ swapped i j k
@@ -55,18 +55,18 @@ pub swapped_long : {A : Type 0} (side : Side) (grid : Grid) (xs ys : List A) (i 
 swapped_long Rows grid xs ys i j s = s.long
 swapped_long Columns grid xs ys i j s = s.long
 
-module _ {A : Type 0} (side : Side) (t : Table A) (i j : ℕ) (hi : i < lines_of side t.rows t.columns) (hj : j < lines_of side t.rows t.columns) where
+module _ {A : Type 0} (side : Side) (t : Table A) (i j : ℕ) (hi : i < lines_in side t.rows t.columns) (hj : j < lines_in side t.rows t.columns) where
   pub counts : Counts t (swap_lines (side_of side) i j) t.rows t.columns [] 0
   counts = go side hi hj
     where
-      go : (side : Side) → i < lines_of side t.rows t.columns → j < lines_of side t.rows t.columns → Counts t (swap_lines (side_of side) i j) t.rows t.columns [] 0
+      go : (side : Side) → i < lines_in side t.rows t.columns → j < lines_in side t.rows t.columns → Counts t (swap_lines (side_of side) i j) t.rows t.columns [] 0
       go Rows hi hj = rows_exchanged t i j hi hj
       go Columns hi hj = columns_exchanged t i j hi hj
 
   pub lost : lost_of t (swap_lines (side_of side) i j) ≡ []
   lost = go side hi hj
     where
-      go : (side : Side) → i < lines_of side t.rows t.columns → j < lines_of side t.rows t.columns → lost_of t (swap_lines (side_of side) i j) ≡ []
+      go : (side : Side) → i < lines_in side t.rows t.columns → j < lines_in side t.rows t.columns → lost_of t (swap_lines (side_of side) i j) ≡ []
       go Rows hi hj = rows_exchanged_lost t i j hi hj
       go Columns hi hj = columns_exchanged_lost t i j hi hj
 
@@ -74,7 +74,7 @@ module _ {A : Type 0} (side : Side) (t : Table A) (i j : ℕ) (hi : i < lines_of
   pub row_origin : (r : ℕ) → r < t.rows → (get_or (rows_of t (swap_lines (side_of side) i j)) r (new 0) ≡ old (row_from side i j r)) × (row_from side i j r < t.rows)
   row_origin r a = go side hi hj
     where
-      go : (side : Side) → i < lines_of side t.rows t.columns → j < lines_of side t.rows t.columns
+      go : (side : Side) → i < lines_in side t.rows t.columns → j < lines_in side t.rows t.columns
           → (get_or (rows_of t (swap_lines (side_of side) i j)) r (new 0) ≡ old (row_from side i j r)) × (row_from side i j r < t.rows)
       go Rows hi hj = (swap_at i j t.rows r (new 0) a, swapped_below i j t.rows r hi hj a)
       go Columns hi hj = (keep_at t.rows r (new 0) a, a)
@@ -82,7 +82,7 @@ module _ {A : Type 0} (side : Side) (t : Table A) (i j : ℕ) (hi : i < lines_of
   pub column_origin : (c : ℕ) → c < t.columns → (get_or (columns_of t (swap_lines (side_of side) i j)) c (new 0) ≡ old (column_from side i j c)) × (column_from side i j c < t.columns)
   column_origin c b = go side hi hj
     where
-      go : (side : Side) → i < lines_of side t.rows t.columns → j < lines_of side t.rows t.columns
+      go : (side : Side) → i < lines_in side t.rows t.columns → j < lines_in side t.rows t.columns
           → (get_or (columns_of t (swap_lines (side_of side) i j)) c (new 0) ≡ old (column_from side i j c)) × (column_from side i j c < t.columns)
       go Rows hi hj = (keep_at t.columns c (new 0) b, b)
       go Columns hi hj = (swap_at i j t.columns c (new 0) b, swapped_below i j t.columns c hi hj b)

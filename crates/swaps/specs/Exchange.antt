@@ -5,11 +5,6 @@ use Rattle.journal.specs.declared.parts.Side.{Side}
 use Rattle.journal.specs.declared.parts.Side.TheVariants.{Rows, Columns}
 use Rattle.edition.specs.Swaps.{ColumnsSwapped, RowsSwapped}
 
--- how many lines the side has
-abbrev pub lines_of : Side → (rows columns : ℕ) → ℕ
-lines_of Rows rows columns = rows
-lines_of Columns rows columns = columns
-
 -- lines i and j of the side have changed places
 abbrev pub Swapped : {T : Type 0} → Side → Grid → (was is : List T) → (i j : ℕ) → Type 0
 Swapped Rows grid was is i j = RowsSwapped grid was is i j

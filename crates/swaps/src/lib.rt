@@ -7,11 +7,11 @@ ghost use Rattle.model.specs.Sheet.{swap_lines};
 ghost use Rattle.model.specs.Journal.{change, undo};
 ghost use Rattle.model.specs.Reached.{Bounds};
 ghost use Rattle.journal.specs.declared.parts.Note.TheVariants.{Exchange};
-ghost use Rattle.journal.specs.View.{side_of, view};
+ghost use Rattle.journal.specs.View.{FewCells, lines_in, side_of, view};
 ghost use Rattle.journal.specs.Asking.{Fits};
 ghost use Rattle.journal.specs.Answering.{Answers, Held, Performed};
 ghost use Rattle.leaving.specs.Leaving.{Newest};
-ghost use Rattle.swaps.specs.Exchange.{Swapped, lines_of};
+ghost use Rattle.swaps.specs.Exchange.{Swapped};
 
 use journal::entering::enter;
 use journal::parts::{Entry, Note, Parts, Side};
@@ -21,7 +21,7 @@ use layout::vec_storage::Dense;
 use leaving::leave;
 
 fn lines_of(side: Side, rows: u32, columns: u32) -> u32
-    ensures { result ≡ lines_of side rows columns }
+    ensures { result ≡ lines_in side rows columns }
 {
     match side {
         Side::Rows => rows,
@@ -32,7 +32,7 @@ fn lines_of(side: Side, rows: u32, columns: u32) -> u32
 // A sheet's cells lie as a dense layout has them.
 fn swap_cells<T: Copy>(cells: &mut [T], rows: u32, columns: u32, side: Side, i: u32, j: u32)
     requires small { (rows ≤ 4096) × (columns ≤ 4096) × (rows * columns ≤ 65536) × (rows * columns ≤ length cells.old) }
-    requires there { (i < lines_of side rows columns) × (j < lines_of side rows columns) }
+    requires there { (i < lines_in side rows columns) × (j < lines_in side rows columns) }
     ensures { Swapped side (dense rows columns) cells.old cells.new i j }
 {
     let whole = Dense::make(rows, columns);
@@ -46,7 +46,7 @@ fn swap_cells<T: Copy>(cells: &mut [T], rows: u32, columns: u32, side: Side, i: 
 // Lines i and j change places.
 pub fn swap<T: Copy>(p: &mut Parts<'_, T>, side: Side, i: u32, j: u32) -> Result<(), Refusal>
     requires held { Held p.old }
-    requires small { length p.old.cells.now ≤ 65536 }
+    requires few { FewCells p.old }
     ensures { Answers p.old p.new (change (swap_lines (side_of side) i j)) result }
 {
     let (rows, columns) = (p.rows, p.columns);
@@ -64,8 +64,8 @@ pub fn swap<T: Copy>(p: &mut Parts<'_, T>, side: Side, i: u32, j: u32) -> Result
 
 fn exchange<T: Copy>(p: &mut Parts<'_, T>, side: Side, i: u32, j: u32)
     requires bounds { Bounds (view p.old) }
-    requires small { length p.old.cells.now ≤ 65536 }
-    requires there { (i < lines_of side p.old.rows p.old.columns) × (j < lines_of side p.old.rows p.old.columns) }
+    requires few { FewCells p.old }
+    requires there { (i < lines_in side p.old.rows p.old.columns) × (j < lines_in side p.old.rows p.old.columns) }
     requires fits { Fits p.old p.old.rows p.old.columns 0 0 }
     ensures { Performed p.old p.new (swap_lines (side_of side) i j) p.old.rows p.old.columns [] 0 }
 {
@@ -77,7 +77,7 @@ fn exchange<T: Copy>(p: &mut Parts<'_, T>, side: Side, i: u32, j: u32)
 // Takes the swap back that the newest entry notes: the lines change places once more.
 pub fn undo_swap<T: Copy>(p: &mut Parts<'_, T>, entry: Entry, side: Side, i: u32, j: u32)
     requires held { Held p.old }
-    requires small { length p.old.cells.now ≤ 65536 }
+    requires few { FewCells p.old }
     requires newest { Newest p.old entry }
     requires noted { entry.note ≡ Exchange side i j }
     ensures { Answers p.old p.new undo (Ok tt) }

@@ -1,4 +1,4 @@
-ghost use Rattle.std.specs.Prelude.{◌≤◌, length};
+ghost use Rattle.journal.specs.View.{FewCells};
 ghost use Rattle.gaps.specs.Gaps.{Left};
 
 use journal::parts::{Parts, Side};
@@ -14,6 +14,6 @@ pub struct Gapped<'a, T> {
     at: u32,
     count: u32,
     answer: Result<(), Refusal>,
-    ghost small: { length parts.cells.now ≤ 65536 },
+    ghost few: { FewCells parts },
     ghost left: { ∥ Left parts side at count answer ∥₁ },
 }

@@ -153,7 +153,7 @@ impl<'a, T: Copy> Sheet<'a, T> {
     }
 
     // Puts in n rows of v before row i.
-    #[tactic(auto, using(crate::proofs::Keeping::still_small))]
+    #[tactic(auto, using(crate::proofs::Keeping::still_few))]
     pub fn insert_rows(&mut self, i: u32, n: u32, v: T) -> Result<(), Refusal>
         ensures { Answers self.old.parts self.new.parts (change (insert_lines row i n v)) result }
     {
@@ -161,7 +161,7 @@ impl<'a, T: Copy> Sheet<'a, T> {
     }
 
     // Puts in n columns of v before column i.
-    #[tactic(auto, using(crate::proofs::Keeping::still_small))]
+    #[tactic(auto, using(crate::proofs::Keeping::still_few))]
     pub fn insert_columns(&mut self, i: u32, n: u32, v: T) -> Result<(), Refusal>
         ensures { Answers self.old.parts self.new.parts (change (insert_lines column i n v)) result }
     {
@@ -169,7 +169,7 @@ impl<'a, T: Copy> Sheet<'a, T> {
     }
 
     // Takes out n rows at i.
-    #[tactic(auto, using(crate::proofs::Keeping::still_small))]
+    #[tactic(auto, using(crate::proofs::Keeping::still_few))]
     pub fn remove_rows(&mut self, i: u32, n: u32) -> Result<(), Refusal>
         ensures { Answers self.old.parts self.new.parts (change (remove_lines row i n)) result }
     {
@@ -177,7 +177,7 @@ impl<'a, T: Copy> Sheet<'a, T> {
     }
 
     // Takes out n columns at i.
-    #[tactic(auto, using(crate::proofs::Keeping::still_small))]
+    #[tactic(auto, using(crate::proofs::Keeping::still_few))]
     pub fn remove_columns(&mut self, i: u32, n: u32) -> Result<(), Refusal>
         ensures { Answers self.old.parts self.new.parts (change (remove_lines column i n)) result }
     {
@@ -185,7 +185,7 @@ impl<'a, T: Copy> Sheet<'a, T> {
     }
 
     // Takes out each row that the list names, once; an index beyond the rows is passed over.
-    #[tactic(auto, using(crate::proofs::Keeping::still_small))]
+    #[tactic(auto, using(crate::proofs::Keeping::still_few))]
     pub fn remove_rows_at(&mut self, list: &[u32]) -> Result<(), Refusal>
         ensures { Answers self.old.parts self.new.parts (change (remove_listed row list.now)) result }
     {
@@ -193,7 +193,7 @@ impl<'a, T: Copy> Sheet<'a, T> {
     }
 
     // Takes out each column that the list names, once; an index beyond the columns is passed over.
-    #[tactic(auto, using(crate::proofs::Keeping::still_small))]
+    #[tactic(auto, using(crate::proofs::Keeping::still_few))]
     pub fn remove_columns_at(&mut self, list: &[u32]) -> Result<(), Refusal>
         ensures { Answers self.old.parts self.new.parts (change (remove_listed column list.now)) result }
     {
@@ -201,7 +201,7 @@ impl<'a, T: Copy> Sheet<'a, T> {
     }
 
     // Rows i and j change places.
-    #[tactic(auto, using(crate::proofs::Keeping::still_small))]
+    #[tactic(auto, using(crate::proofs::Keeping::still_few))]
     pub fn swap_rows(&mut self, i: u32, j: u32) -> Result<(), Refusal>
         ensures { Answers self.old.parts self.new.parts (change (swap_lines row i j)) result }
     {
@@ -209,7 +209,7 @@ impl<'a, T: Copy> Sheet<'a, T> {
     }
 
     // Columns i and j change places.
-    #[tactic(auto, using(crate::proofs::Keeping::still_small))]
+    #[tactic(auto, using(crate::proofs::Keeping::still_few))]
     pub fn swap_columns(&mut self, i: u32, j: u32) -> Result<(), Refusal>
         ensures { Answers self.old.parts self.new.parts (change (swap_lines column i j)) result }
     {
@@ -217,7 +217,7 @@ impl<'a, T: Copy> Sheet<'a, T> {
     }
 
     // Gives the sheet so many rows and columns: old cells in both shapes stay, others are v.
-    #[tactic(auto, using(crate::proofs::Keeping::still_small))]
+    #[tactic(auto, using(crate::proofs::Keeping::still_few))]
     pub fn resize_mut(&mut self, rows: u32, columns: u32, v: T) -> Result<(), Refusal>
         ensures { Answers self.old.parts self.new.parts (change (resize_to rows columns v)) result }
     {

@@ -9,7 +9,7 @@ pub swap_cells-requires : goal.swap_cells-requires
 swap_cells-requires g c =
     let p = c.args.p.now in
     let b = c.requires.bounds in
-    record { small = (b.rows, b.columns, omega (arith, b.cells, c.requires.small), cells_fit p b); there = c.requires.there }
+    record { small = (b.rows, b.columns, omega (arith, b.cells, c.requires.few), cells_fit p b); there = c.requires.there }
 
 pub returns : goal.returns
 returns g c =

@@ -15,7 +15,7 @@ exchange-requires g c =
     let p = c.args.p.now in
     record {
       bounds = bounds (view p) c.requires.held.reachable;
-      small = c.requires.small;
+      few = c.requires.few;
       there = (omega arith, omega arith);
       fits = room p _ _ _ _ _ _ (counts c.args.side (table_of p) c.args.i c.args.j (omega arith) (omega arith)) refl c.ask-asked.result c.requires.held c.ask-asked.ensures.which c.if-is_err.ensures.value c.ask-asked.ensures.goes;
     }

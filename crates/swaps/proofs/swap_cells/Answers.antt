@@ -3,7 +3,8 @@ use Rattle.layout.specs.Lawful.{dense}
 use Rattle.layout.proofs.Passing.{granted}
 use Rattle.edition.specs.Swaps.{ColumnsSwapped, swap_rules}
 use Rattle.edition.specs.Turned.{turn}
-use Rattle.swaps.specs.Exchange.{Swapped, lines_of}
+use Rattle.journal.specs.View.{lines_in}
+use Rattle.swaps.specs.Exchange.{Swapped}
 use Rattle.swaps.proofs.swap_cells.Goals as goal
 
 -- the layout is made, and the lines are among its columns, so the exchange is not refused
@@ -14,8 +15,8 @@ returns-in-Columns g c =
     let w = c.make-whole.result in
     let made = c.make-whole.ensures.made ((s.0, s.1), (s.2, tt)) in
     let there = c.requires.there in
-    let first : a.i < w.columns = subst (λ n. a.i < n) (sym made.1) (subst (λ z. a.i < lines_of z a.rows a.columns) c.in-Columns.is there.0) in
-    let second : a.j < w.columns = subst (λ n. a.j < n) (sym made.1) (subst (λ z. a.j < lines_of z a.rows a.columns) c.in-Columns.is there.1) in
+    let first : a.i < w.columns = subst (λ n. a.i < n) (sym made.1) (subst (λ z. a.i < lines_in z a.rows a.columns) c.in-Columns.is there.0) in
+    let second : a.j < w.columns = subst (λ n. a.j < n) (sym made.1) (subst (λ z. a.j < lines_in z a.rows a.columns) c.in-Columns.is there.1) in
     let cells : w.rows * w.columns ≤ length a.cells.now = subst (λ n. n ≤ length a.cells.now) (sym (ap₂ ◌*◌ made.0 made.1)) s.3 in
     let e = c.swap_columns.ensures in
     let swapped : ColumnsSwapped (dense w.rows w.columns) a.cells.now c.swap_columns.new.buffer a.i a.j =

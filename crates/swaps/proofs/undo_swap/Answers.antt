@@ -15,7 +15,7 @@ swap_cells-requires g c =
     let p = c.args.p.now in
     let b = bounds (view p) c.requires.held.reachable in
     record {
-      small = (b.rows, b.columns, omega (arith, b.cells, c.requires.small), cells_fit p b);
+      small = (b.rows, b.columns, omega (arith, b.cells, c.requires.few), cells_fit p b);
       there = lines_there p c.args.entry c.requires.held c.requires.newest c.args.side c.args.i c.args.j c.requires.noted;
     }
 

@@ -10,4 +10,4 @@ invariant_of-result g c =
     let rules = opening_rules (g.L.Layout.grid s) (length c.args.source.now) (room (length c.args.cells.now) (length c.args.entries.now) (length c.args.runs.now) (length c.args.saved.now)) in
     let f = filled_ghosts (g.L.Layout.grid s) (g.L.Layout.lawful s) c.args.source.now _ c.fill.new.p c.fill.ensures
     (passed rules c.check.result c.check.ensures c.if-is_err.ensures.value) in
-    record { tops = f.0; reachable = f.1; small = f.2 }
+    record { tops = f.0; reachable = f.1; few = f.2 }

@@ -6,7 +6,7 @@ pub invariant_of-result : goal.invariant_of-result
 invariant_of-result g c =
     let s = c.args.self in
     let f = fills_none s.parts s.side s.at s.count s.answer c.args.list.now c.args.v c.if-is_err.ensures.value in
-    record { tops = filled_tops s.parts _ _ _ _ s.left s.parts _ _ f; reachable = filled_reachable s.parts _ _ _ _ s.left s.parts _ _ f; small = s.small }
+    record { tops = filled_tops s.parts _ _ _ _ s.left s.parts _ _ f; reachable = filled_reachable s.parts _ _ _ _ s.left s.parts _ _ f; few = s.few }
 
 pub returns-then-is_err : goal.returns-then-is_err
 returns-then-is_err g c =
@@ -26,7 +26,7 @@ invariant_of-result-2 g c =
     record {
       tops = filled_tops s.parts _ _ _ _ s.left q _ _ f;
       reachable = filled_reachable s.parts _ _ _ _ s.left q _ _ f;
-      small = subst (λ n. n ≤ 65536) (sym (written_long s.side _ _ _ _ _ _ _ _ c.fill_gap.ensures.cells)) s.small;
+      few = subst (λ n. n ≤ 65536) (sym (written_long s.side _ _ _ _ _ _ _ _ c.fill_gap.ensures.cells)) s.few;
     }
 
 pub returns : goal.returns
