@@ -3,7 +3,8 @@
 
 ghost use Rattle.std.specs.Prelude.{◌≤◌, length, IfOk};
 
-use journal::parts::{Entry, Note, Run, Side};
+use journal::parts::{Entry, Note, Run};
+use layout::side::Side;
 use layout::vec_storage::Dense;
 use session::state::{Lines, Session};
 use sheet::sheet::Sheet;

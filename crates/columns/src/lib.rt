@@ -10,7 +10,8 @@ ghost use Rattle.journal.specs.Asking.{Fits};
 ghost use Rattle.journal.specs.Answering.{Answers, Held, Performed};
 
 use journal::entering::{enter, note_run, run_count};
-use journal::parts::{Note, Parts, Side, take_out};
+use journal::parts::{Note, Parts, take_out};
+use layout::side::Side;
 use journal::questions::ask;
 use layout::refusal::Refusal;
 

@@ -6,7 +6,7 @@ ghost use Rattle.model.specs.Journal.{change, step};
 ghost use Rattle.journal.specs.View.{view};
 ghost use Rattle.std.specs.Prelude.{◌≡◌};
 
-use journal::parts::Side;
+use layout::side::Side;
 use sheet::cell::Weight;
 use sheet::sheet::Sheet;
 

@@ -1,5 +1,6 @@
 use super::put_weights;
-use journal::parts::{Entry, Note, Run, Side};
+use journal::parts::{Entry, Note, Run};
+use layout::side::Side;
 use layout::refusal::Refusal;
 use layout::storage::Layout;
 use layout::vec_storage::Dense;

@@ -9,8 +9,8 @@ use Rattle.model.specs.Journal.{change, lost_of}
 use Rattle.model.specs.Reached.{Reachable}
 use Rattle.model.proofs.Gaps.{row_gap_lost, column_gap_lost}
 use Rattle.model.proofs.Reaching.{bounds}
-use Rattle.journal.specs.declared.parts.Side.{Side}
-use Rattle.journal.specs.declared.parts.Side.TheVariants.{Rows, Columns}
+use Rattle.layout.specs.declared.side.Side.{Side}
+use Rattle.layout.specs.declared.side.Side.TheVariants.{Rows, Columns}
 use Rattle.journal.specs.declared.parts.Note.{Note}
 use Rattle.journal.specs.declared.parts.Tops.{Tops}
 use Rattle.journal.specs.declared.parts.Parts.{Parts}

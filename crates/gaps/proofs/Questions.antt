@@ -6,8 +6,8 @@ use Rattle.model.specs.Sheet.{Change, row, column, fill_lines}
 use Rattle.model.specs.Journal.{first_no, named_in, tests}
 use Rattle.model.proofs.Counting.{Counts}
 use Rattle.model.proofs.Gaps.{row_gap, column_gap}
-use Rattle.journal.specs.declared.parts.Side.{Side}
-use Rattle.journal.specs.declared.parts.Side.TheVariants.{Rows, Columns}
+use Rattle.layout.specs.declared.side.Side.{Side}
+use Rattle.layout.specs.declared.side.Side.TheVariants.{Rows, Columns}
 use Rattle.journal.specs.declared.parts.Parts.{Parts}
 use Rattle.journal.specs.View.{answered, side_of, table_of, view, lines_in}
 use Rattle.journal.specs.Asking.{rooms}

@@ -5,8 +5,8 @@ use Rattle.moves.specs.Slides.{Slid}
 use Rattle.moves.specs.Tables.{Extended}
 use Rattle.model.specs.Sheet.{fill_lines}
 use Rattle.model.specs.Journal.{change, verdict}
-use Rattle.journal.specs.declared.parts.Side.{Side}
-use Rattle.journal.specs.declared.parts.Side.TheVariants.{Rows, Columns}
+use Rattle.layout.specs.declared.side.Side.{Side}
+use Rattle.layout.specs.declared.side.Side.TheVariants.{Rows, Columns}
 use Rattle.journal.specs.declared.parts.Note.{Note}
 use Rattle.journal.specs.declared.parts.Parts.{Parts}
 use Rattle.journal.specs.View.{answered, lines_in, side_of, view}

@@ -1,9 +1,10 @@
-ghost use Rattle.journal.specs.declared.parts.Side.TheVariants.{Rows, Columns};
+ghost use Rattle.layout.specs.declared.side.Side.TheVariants.{Rows, Columns};
 ghost use Rattle.gaps.specs.Gaps.{Filled, Roomy};
 
 use super::taking::{take_block, take_rows};
 use journal::entering::enter;
-use journal::parts::{Note, Parts, Side};
+use journal::parts::{Note, Parts};
+use layout::side::Side;
 
 fn fill_rows<T: Copy>(p: &mut Parts<'_, T>, i: u32, n: u32, list: &[T], v: T)
     requires { Roomy p.old Rows i n }

@@ -1,11 +1,12 @@
 ghost use Rattle.std.specs.Prelude.{◌≡◌, ◌+◌, ◌*◌, ◌≤◌, length};
 ghost use Rattle.model.specs.Journal.{done};
-ghost use Rattle.journal.specs.declared.parts.Side.TheVariants.{Columns};
+ghost use Rattle.layout.specs.declared.side.Side.TheVariants.{Columns};
 ghost use Rattle.journal.specs.View.{answered, lines_in};
 ghost use Rattle.journal.specs.Answering.{Held};
 ghost use Rattle.gaps.specs.Gaps.{Apart, Asked, Gap, Roomy, columns_grown, rows_grown};
 
-use journal::parts::{Parts, Side};
+use journal::parts::Parts;
+use layout::side::Side;
 use journal::questions::ask;
 use layout::refusal::Refusal;
 use moves::blocks::slide_right;

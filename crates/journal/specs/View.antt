@@ -2,8 +2,8 @@
 use Rattle.std.specs.Prelude.{ℕ, ◌*◌, ◌≤◌, List, map, reverse, length, take, Ok, Err, Result}
 use Rattle.layout.specs.declared.refusal.Refusal.{Refusal}
 use Rattle.layout.specs.Refusals.{number_of}
-use Rattle.journal.specs.declared.parts.Side.{Side}
-use Rattle.journal.specs.declared.parts.Side.TheVariants.{Rows, Columns}
+use Rattle.layout.specs.declared.side.Side.{Side}
+use Rattle.layout.specs.declared.side.Side.TheVariants.{Rows, Columns}
 use Rattle.journal.specs.declared.parts.Note.{Note}
 use Rattle.journal.specs.declared.parts.Note.TheVariants.{Insertion, Removal, ListedRemoval, Exchange, Gap, Resizing}
 use Rattle.journal.specs.declared.parts.Run.{Run}

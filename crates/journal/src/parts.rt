@@ -1,11 +1,6 @@
 ghost use Rattle.std.specs.Prelude.{◌≡◌, length};
 
-// Which lines a change is about.
-#[derive(Clone, Copy, PartialEq, Eq, Debug)]
-pub enum Side {
-    Rows,
-    Columns,
-}
+use layout::side::Side;
 
 // Which change an entry is of, and its numbers.
 #[derive(Clone, Copy, PartialEq, Eq, Debug)]

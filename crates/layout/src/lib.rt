@@ -4,5 +4,6 @@
 pub mod indexing;
 pub mod matrix_view;
 pub mod refusal;
+pub mod side;
 pub mod storage;
 pub mod vec_storage;

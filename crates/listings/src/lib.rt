@@ -11,7 +11,8 @@ ghost use Rattle.listed.specs.Cuts.{Lying, cut};
 ghost use Rattle.listings.specs.Cut.{Cut};
 
 use journal::entering::enter;
-use journal::parts::{Note, Parts, Run, Side, take_out};
+use journal::parts::{Note, Parts, Run, take_out};
+use layout::side::Side;
 use journal::questions::ask;
 use layout::refusal::Refusal;
 use listed::cutting::{Lines, cut_runs};

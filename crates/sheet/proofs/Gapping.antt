@@ -3,7 +3,7 @@ use Rattle.std.proofs.Common.{◌≡◌, ℕ, List, Result, subst}
 use Rattle.layout.specs.declared.refusal.Refusal.{Refusal}
 use Rattle.model.specs.Sheet.{fill_lines}
 use Rattle.model.specs.Journal.{change}
-use Rattle.journal.specs.declared.parts.Side.{Side}
+use Rattle.layout.specs.declared.side.Side.{Side}
 use Rattle.journal.specs.declared.parts.Parts.{Parts}
 use Rattle.journal.specs.View.{side_of}
 use Rattle.journal.specs.Answering.{Answers}

@@ -2,7 +2,7 @@
 use Rattle.std.proofs.Common.{◌≡◌, ℕ, ◌≤◌, List, [], ◌∷◌, length, Ok, Err, Result, sym, refl, ap, subst, ◌∙◌}
 use Rattle.layout.specs.declared.refusal.Refusal.{Refusal}
 use Rattle.model.specs.Journal.{Sheet, Entry, Answer, done, refused, verdict, after, Call, change, undo, settle, unless, taken_back, step}
-use Rattle.journal.specs.declared.parts.Side.{Side}
+use Rattle.layout.specs.declared.side.Side.{Side}
 use Rattle.journal.specs.declared.parts.Parts.{Parts}
 use Rattle.journal.specs.View.{FewCells, view}
 use Rattle.journal.specs.Answering.{Answers}

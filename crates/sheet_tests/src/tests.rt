@@ -1,4 +1,5 @@
-use journal::parts::{Entry, Note, Run, Side};
+use journal::parts::{Entry, Note, Run};
+use layout::side::Side;
 use layout::refusal::Refusal;
 use layout::storage::Layout;
 use layout::vec_storage::Dense;

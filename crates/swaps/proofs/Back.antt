@@ -7,8 +7,8 @@ use Rattle.model.specs.Journal as model
 use Rattle.model.specs.Journal.{Sheet, named_in}
 use Rattle.model.specs.Reached.{Newest}
 use Rattle.model.proofs.Reaching.{newest_named}
-use Rattle.journal.specs.declared.parts.Side.{Side}
-use Rattle.journal.specs.declared.parts.Side.TheVariants.{Rows, Columns}
+use Rattle.layout.specs.declared.side.Side.{Side}
+use Rattle.layout.specs.declared.side.Side.TheVariants.{Rows, Columns}
 use Rattle.journal.specs.declared.parts.Note.TheVariants.{Exchange}
 use Rattle.journal.specs.declared.parts.Entry.{Entry}
 use Rattle.journal.specs.declared.parts.Parts.{Parts}

@@ -10,8 +10,8 @@ use Rattle.model.proofs.Counting.{Counts}
 use Rattle.model.proofs.Exchanges.{columns_exchanged, columns_exchanged_lost, moved_cells, rows_exchanged, rows_exchanged_lost, swap_at, swapped_below, swapped_twice, swapped_ways}
 use Rattle.model.proofs.Joins.{former_cell, lying, same_cell, table_cells}
 use Rattle.model.proofs.Lines.{keep_at}
-use Rattle.journal.specs.declared.parts.Side.{Side}
-use Rattle.journal.specs.declared.parts.Side.TheVariants.{Rows, Columns}
+use Rattle.layout.specs.declared.side.Side.{Side}
+use Rattle.layout.specs.declared.side.Side.TheVariants.{Rows, Columns}
 use Rattle.journal.specs.View.{side_of, lines_in}
 use Rattle.swaps.specs.Exchange.{Swapped}
 

@@ -1,8 +1,8 @@
 -- Two lines of a side.
 use Rattle.std.specs.Prelude.{ℕ, List}
 use Rattle.layout.specs.Lawful.{Grid}
-use Rattle.journal.specs.declared.parts.Side.{Side}
-use Rattle.journal.specs.declared.parts.Side.TheVariants.{Rows, Columns}
+use Rattle.layout.specs.declared.side.Side.{Side}
+use Rattle.layout.specs.declared.side.Side.TheVariants.{Rows, Columns}
 use Rattle.edition.specs.Swaps.{ColumnsSwapped, RowsSwapped}
 
 -- lines i and j of the side have changed places

@@ -14,7 +14,8 @@ ghost use Rattle.leaving.specs.Leaving.{Newest};
 ghost use Rattle.swaps.specs.Exchange.{Swapped};
 
 use journal::entering::enter;
-use journal::parts::{Entry, Note, Parts, Side};
+use journal::parts::{Entry, Note, Parts};
+use layout::side::Side;
 use journal::questions::ask;
 use layout::refusal::Refusal;
 use layout::vec_storage::Dense;

@@ -12,8 +12,8 @@ use Rattle.model.specs.Sentences.{lines}
 use Rattle.model.specs.Reached.{Newest}
 use Rattle.model.proofs.Lines.{keep_length, insert_length, insert_upper, insert_lower}
 use Rattle.model.proofs.Reaching.{bounds, newest_named}
-use Rattle.journal.specs.declared.parts.Side.{Side}
-use Rattle.journal.specs.declared.parts.Side.TheVariants.{Rows, Columns}
+use Rattle.layout.specs.declared.side.Side.{Side}
+use Rattle.layout.specs.declared.side.Side.TheVariants.{Rows, Columns}
 use Rattle.journal.specs.declared.parts.Note.{Note}
 use Rattle.journal.specs.declared.parts.Entry.{Entry}
 use Rattle.journal.specs.declared.parts.Parts.{Parts}

@@ -1,6 +1,6 @@
 -- Lines put in, as an entry notes them.
 use Rattle.std.specs.Prelude.{◌≡◌, ℕ, ◌<◌, ◌≤◌, ◌⊎◌}
-use Rattle.journal.specs.declared.parts.Side.{Side}
+use Rattle.layout.specs.declared.side.Side.{Side}
 use Rattle.journal.specs.declared.parts.Note.{Note}
 use Rattle.journal.specs.declared.parts.Note.TheVariants.{Insertion, Gap}
 use Rattle.journal.specs.declared.parts.Entry.{Entry}

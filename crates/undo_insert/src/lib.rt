@@ -9,7 +9,8 @@ ghost use Rattle.journal.specs.Answering.{Answers, Held};
 ghost use Rattle.leaving.specs.Leaving.{Newest, TakesBack};
 ghost use Rattle.undo_insert.specs.Putting.{Leaves, Puts};
 
-use journal::parts::{Entry, Parts, Side};
+use journal::parts::{Entry, Parts};
+use layout::side::Side;
 use leaving::leave;
 use moves::blocks::slide_left;
 use moves::edition::compress_rows;

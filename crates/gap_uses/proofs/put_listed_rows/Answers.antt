@@ -1,4 +1,4 @@
-use Rattle.journal.specs.declared.parts.Side.TheVariants.{Rows}
+use Rattle.layout.specs.declared.side.Side.TheVariants.{Rows}
 use Rattle.sheet.proofs.Gapping.{gap_filled}
 use Rattle.gap_uses.proofs.put_listed_rows.Goals as goal
 

@@ -1,7 +1,8 @@
 ghost use Rattle.journal.specs.View.{FewCells};
 ghost use Rattle.gaps.specs.Gaps.{Left};
 
-use journal::parts::{Parts, Side};
+use journal::parts::Parts;
+use layout::side::Side;
 use layout::refusal::Refusal;
 
 pub mod methods;

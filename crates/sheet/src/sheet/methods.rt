@@ -9,7 +9,8 @@ ghost use Rattle.sheet.specs.Opening.{Read, no_table, opening_rules, room, room_
 use super::super::opening;
 use super::super::opening::Sizes;
 use super::*;
-use journal::parts::{Entry, Parts, Run, Side, Tops};
+use journal::parts::{Entry, Parts, Run, Tops};
+use layout::side::Side;
 use layout::refusal::Refusal;
 use layout::storage::Layout;
 

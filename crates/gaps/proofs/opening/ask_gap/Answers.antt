@@ -1,5 +1,5 @@
 use Rattle.std.proofs.Common.{sym, subst, arith}
-use Rattle.journal.specs.declared.parts.Side.TheVariants.{Rows, Columns}
+use Rattle.layout.specs.declared.side.Side.TheVariants.{Rows, Columns}
 use Rattle.gaps.specs.Gaps.{Asked, Roomy}
 use Rattle.gaps.proofs.Questions.{asked_rooms}
 use Rattle.gaps.proofs.opening.ask_gap.Goals as goal
