@@ -2,4 +2,4 @@ pub mod Places
 pub mod Slides
 pub mod Rows
 pub mod Saves
-pub mod Columns
+pub mod Sides

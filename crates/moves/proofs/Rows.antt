@@ -2,6 +2,7 @@
 use Rattle.std.proofs.Common.{◌≡◌, ℕ, ◌+◌, ◌-◌, ◌*◌, ◌<◌, ◌≤◌, List, length, get_or, sym, refl, ◌∙◌, inl, inr, mul_comm, zero-mul, arith}
 use Rattle.std.proofs.lemmas.Bool.{cases_lt}
 use Rattle.moves.specs.Slides.{Slid}
+use Rattle.moves.specs.Blocks.{rows_block}
 use Rattle.moves.specs.Tables.{Compressed, Opened, Extended}
 use Rattle.moves.proofs.Slides.{at}
 use Rattle.moves.proofs.Places.{next_column, column_after, columns_same, columns_le, columns_lt, columns_wider, place_below}
@@ -71,7 +72,7 @@ module _ (rows columns i n : ℕ) (gap : i + n ≤ rows) where
   compress_end c h = omega (arith, column_after c columns rows (omega arith), mul_comm rows columns)
 
   module _ {X : Type 0} (xs ys : List X) where
-    pub compressed_all : (c w : ℕ) → c + 1 ≡ columns → w ≡ c * (rows - n) + (rows - n) → Compressing xs ys rows (rows - n) i n w → Compressed xs ys rows columns i n
+    pub compressed_all : (c w : ℕ) → c + 1 ≡ columns → w ≡ c * (rows - n) + (rows - n) → Compressing xs ys rows (rows - n) i n w → Compressed xs ys (rows_block rows columns i n)
     compressed_all c w ce we s =
         let all : columns * (rows - n) ≡ w = column_after c columns (rows - n) (omega arith) ∙ sym we in
         record {
@@ -115,7 +116,7 @@ module _ (rows columns last i n : ℕ) (whole : columns ≡ last + 1) where
 
   module _ {X : Type 0} (xs ys zs : List X) (within : i ≤ rows) where
     -- a move of the last column's lower part, and of all that lies between two gaps
-    pub extended_by : (from to m : ℕ) → from ≡ last * rows + i → to ≡ last * (rows + n) + i + n → m ≡ rows - i → Slid xs ys from to m → Opened ys zs rows (rows + n) last i n → Extended xs zs rows columns i n
+    pub extended_by : (from to m : ℕ) → from ≡ last * rows + i → to ≡ last * (rows + n) + i + n → m ≡ rows - i → Slid xs ys from to m → Opened ys zs (rows_block rows last i n) → Extended xs zs (rows_block rows columns i n)
     extended_by from to m fe te me s t =
         let grown : ℕ = rows + n in
         let wide : last * rows ≤ last * (rows + n) = columns_wider last rows (rows + n) (omega arith) in

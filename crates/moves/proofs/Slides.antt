@@ -1,5 +1,6 @@
 -- Steps of the loops that move and fill a block of cells.
-use Rattle.std.proofs.Common.{◌≡◌, ℕ, ◌+◌, ◌-◌, ◌<◌, ◌≤◌, ◌≢◌, List, length, get_or, set, ap, ◌∙◌, inl, inr, arith, length-set, get_or-set_other, get_or-set_same}
+use Rattle.std.proofs.Common.{◌≡◌, ℕ, ◌+◌, ◌-◌, ◌*◌, ◌<◌, ◌≤◌, ◌≢◌, min, List, length, get_or, set, ap, ◌∙◌, inl, inr, arith, length-set, get_or-set_other, get_or-set_same}
+use Rattle.std.proofs.Math.Nat.{min-eq_left, min-eq_right}
 use Rattle.std.proofs.lemmas.List.{get_or_read}
 use Rattle.std.proofs.lemmas.Bool.{cases_eq, cases_lt}
 use Rattle.moves.specs.Slides.{Slid, Filled, Copied}
@@ -122,3 +123,19 @@ slid_through xs bs cs ys from to len out back = record {
   below = back.below;
   above = back.above;
 }
+
+-- where a part of at most 4096 cells begins and ends in a block of len cells
+pub part_ends : (k len start m : ℕ) → start ≡ 4096 * k → start < len → m ≡ min (len - start) 4096
+    → (min (4096 * k) len ≡ start) × (min (4096 * (k + 1)) len ≡ start + m)
+part_ends k len start m e l f =
+    let a : min (4096 * k) len ≡ 4096 * k = min-eq_left (omega arith) in
+    elim (cases_lt (len - start) 4096) [
+      | inl s ↦
+          let b : min (4096 * (k + 1)) len ≡ len = min-eq_right (omega arith) in
+          let c : min (len - start) 4096 ≡ len - start = min-eq_left (omega arith) in
+          (omega arith, omega arith)
+      | inr s ↦
+          let b : min (4096 * (k + 1)) len ≡ 4096 * (k + 1) = min-eq_left (omega arith) in
+          let c : min (len - start) 4096 ≡ 4096 = min-eq_right (omega arith) in
+          (omega arith, omega arith)
+    ]

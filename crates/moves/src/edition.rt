@@ -1,224 +1,192 @@
-// Rows and columns put into and taken out of a table that lies column by column at the start of a
-// buffer: the cell of row r and column c is at r + c * rows.
-ghost use Rattle.std.specs.Prelude.{◌≡◌, ◌+◌, ◌-◌, ◌*◌, ◌≤◌, length};
-ghost use Rattle.moves.specs.Slides.{Copied, Slid};
-ghost use Rattle.moves.specs.Tables.{ColumnsInserted, Compressed, Extended, Inserted, Opened, Put, Restored, RowsFilled, Saved};
+// Rows put into and taken out of a table that lies column by column at the start of a buffer: the cell of row r and
+// column c is at r + c * rows. The lines of either side are such rows.
+ghost use Rattle.std.specs.Prelude.{◌≡◌, ◌+◌, ◌*◌, ◌≤◌, length};
+ghost use Rattle.moves.specs.Blocks.{block_of, cells_in, columns_grown, lines_in, rows_grown};
+ghost use Rattle.moves.specs.Stores.{items, room};
+ghost use Rattle.moves.specs.Tables.{Compressed, Extended, Inserted, Opened, Put, Restored, RowsFilled, Saved};
 
-use crate::blocks::{copy_block, fill_range, slide_left, slide_right};
+use crate::blocks::{copy_block, fill_range, slide};
+use crate::store::Store;
+use crate::vec_storage::{Block, Table};
+use layout::side::Side;
 
-// Takes out n rows at i: the table then has rows - n rows and lies closer.
+// Takes the rows out: the table then has so many rows less and lies closer.
 // To the left, columns from the first on, so a cell is read before it is written over. A move takes
 // what is below the gap in a column along with what is above it in the next.
-pub fn compress_rows<T: Copy>(cells: &mut [T], rows: usize, columns: usize, i: usize, n: usize)
-    requires { (i + n ≤ rows) × (rows * columns ≤ length cells.old) }
-    ensures { Compressed cells.old cells.new rows columns i n }
+pub fn compress_rows<T: Copy>(cells: &mut [T], b: Block)
+    requires { (b.first + b.count ≤ b.rows) × (b.rows * b.columns ≤ length cells.old) }
+    ensures { Compressed cells.old cells.new b }
 {
-    if n == 0 || columns == 0 {
+    if b.count == 0 || b.columns == 0 {
         return;
     }
-    let left = rows - n;
-    let mut from = i + n;
-    let mut to = i;
-    for c in 0..columns - 1 {
-        slide_left(cells, from, to, left);
-        from += rows;
-        to += left;
+    let left = b.rows - b.count;
+    let below = b.first + b.count;
+    let last = b.columns - 1;
+    for c in 0..last {
+        slide(cells, below + c * b.rows, b.first + c * left, left);
     }
-    slide_left(cells, from, to, left - i);
+    slide(
+        cells,
+        below + last * b.rows,
+        b.first + last * left,
+        left - b.first,
+    );
 }
 
-// Moves `columns` columns of `rows` cells, the first of them at i, to where each has `grown` places
-// and lies after n of them. To the right, columns from the last on, so a cell is read before it is
-// written over.
-fn open_columns<T: Copy>(
-    cells: &mut [T],
-    rows: usize,
-    grown: usize,
-    columns: usize,
-    i: usize,
-    n: usize,
-)
-    requires { (grown ≡ rows + n) × (i + columns * grown ≤ length cells.old) }
-    ensures { Opened cells.old cells.new rows grown columns i n }
+// Moves columns of `rows` cells, the first of them at b.first, to where each lies after b.count more. To the right,
+// columns from the last on, so a cell is read before it is written over.
+fn open_columns<T: Copy>(cells: &mut [T], b: Block)
+    requires { b.first + b.columns * (b.rows + b.count) ≤ length cells.old }
+    ensures { Opened cells.old cells.new b }
 {
-    let mut from = columns * rows + i;
-    let mut to = columns * grown + i;
-    let mut c = columns;
-    while 0 < c {
-        c -= 1;
-        from -= rows;
-        to -= grown;
-        slide_right(cells, from, to + n, rows);
+    for c in (0..b.columns).rev() {
+        let to = b.first + c * (b.rows + b.count) + b.count;
+        slide(cells, b.first + c * b.rows, to, b.rows);
     }
 }
 
-// Makes room for n rows at i: the table then has rows + n rows. What the new cells hold is not said.
+// Makes room for the rows: the table then has so many rows more. What the new cells hold is not said.
 // To the right, columns from the last on, so a cell is read before it is written over.
-pub fn extend_rows<T: Copy>(cells: &mut [T], rows: usize, columns: usize, i: usize, n: usize)
-    requires { (i ≤ rows) × ((rows + n) * columns ≤ length cells.old) }
-    ensures { Extended cells.old cells.new rows columns i n }
+pub fn extend_rows<T: Copy>(cells: &mut [T], b: Block)
+    requires { (b.first ≤ b.rows) × ((b.rows + b.count) * b.columns ≤ length cells.old) }
+    ensures { Extended cells.old cells.new b }
 {
-    if n == 0 || columns == 0 {
+    if b.count == 0 || b.columns == 0 {
         return;
     }
-    let grown = rows + n;
-    let last = columns - 1;
+    let grown = b.rows + b.count;
+    let last = b.columns - 1;
     // The last column has no upper part of a next one to move along.
-    slide_right(cells, last * rows + i, last * grown + i + n, rows - i);
-    open_columns(cells, rows, grown, last, i, n);
+    slide(
+        cells,
+        last * b.rows + b.first,
+        last * grown + b.first + b.count,
+        b.rows - b.first,
+    );
+    open_columns(cells, Block { columns: last, ..b });
 }
 
-// Copies n rows at i to another buffer, column by column, from `top` on.
-pub fn save_rows<T: Copy>(
-    cells: &[T],
-    rows: usize,
-    columns: usize,
-    i: usize,
-    n: usize,
-    saved: &mut [T],
-    top: usize,
-)
-    requires { (i + n ≤ rows) × (rows * columns ≤ length cells.now) × (top + n * columns ≤ length saved.old) }
-    ensures { Saved cells.now saved.old saved.new rows columns i n top }
+// Copies the rows to a store, column by column.
+pub fn save_rows<T: Copy>(cells: &[T], b: Block, saved: &mut Store<'_, T>)
+    requires { (b.first + b.count ≤ b.rows) × (b.rows * b.columns ≤ length cells.now) × (length (items saved.old) + b.count * b.columns ≤ room saved.old) }
+    ensures saved { Saved cells.now (items saved.old) (items saved.new) b }
+    ensures same { room saved.new ≡ room saved.old }
 {
-    for c in 0..columns {
-        copy_block(cells, i + c * rows, saved, top + c * n, n);
+    for c in 0..b.columns {
+        let from = b.first + c * b.rows;
+        saved.extend_from_slice(&cells[from..from + b.count]);
     }
 }
 
-// Writes n rows that were saved over those at i.
-pub fn put_rows<T: Copy>(
-    saved: &[T],
-    top: usize,
-    cells: &mut [T],
-    rows: usize,
-    columns: usize,
-    i: usize,
-    n: usize,
-)
-    requires { (i + n ≤ rows) × (rows * columns ≤ length cells.old) × (top + n * columns ≤ length saved.now) }
-    ensures { Put saved.now cells.old cells.new rows columns i n top }
+// Writes rows that were saved over those of the block.
+pub fn put_rows<T: Copy>(saved: &[T], cells: &mut [T], b: Block)
+    requires { (b.first + b.count ≤ b.rows) × (b.rows * b.columns ≤ length cells.old) × (b.count * b.columns ≤ length saved.now) }
+    ensures { Put saved.now cells.old cells.new b }
 {
-    for c in 0..columns {
-        copy_block(saved, top + c * n, cells, i + c * rows, n);
+    for c in 0..b.columns {
+        let from = c * b.count;
+        let to = b.first + c * b.rows;
+        copy_block(saved, from, cells, to, b.count);
     }
 }
 
-// Saves n rows at i and takes them out.
-// To the left, columns from the first on.
-pub fn remove_rows<T: Copy>(
-    cells: &mut [T],
-    rows: usize,
-    columns: usize,
-    i: usize,
-    n: usize,
-    saved: &mut [T],
-    top: usize,
-)
-    requires { (i + n ≤ rows) × (rows * columns ≤ length cells.old) × (top + n * columns ≤ length saved.old) }
-    ensures saved { Saved cells.old saved.old saved.new rows columns i n top }
-    ensures table { Compressed cells.old cells.new rows columns i n }
-{
-    save_rows(cells, rows, columns, i, n, saved, top);
-    compress_rows(cells, rows, columns, i, n);
-}
-
-// Puts n rows that were saved in at i, where they were taken out of.
+// Puts rows that were saved in where they were taken out of.
 // To the right, columns from the last on.
-pub fn restore_rows<T: Copy>(
-    saved: &[T],
-    top: usize,
-    cells: &mut [T],
-    rows: usize,
-    columns: usize,
-    i: usize,
-    n: usize,
-)
-    requires { (i ≤ rows) × ((rows + n) * columns ≤ length cells.old) × (top + n * columns ≤ length saved.now) }
-    ensures { Restored saved.now cells.old cells.new rows columns i n top }
+pub fn restore_rows<T: Copy>(saved: &[T], cells: &mut [T], b: Block)
+    requires { (b.first ≤ b.rows) × ((b.rows + b.count) * b.columns ≤ length cells.old) × (b.count * b.columns ≤ length saved.now) }
+    ensures { Restored saved.now cells.old cells.new b }
 {
-    if columns == 0 {
+    if b.columns == 0 {
         return;
     }
-    extend_rows(cells, rows, columns, i, n);
-    put_rows(saved, top, cells, rows + n, columns, i, n);
+    extend_rows(cells, b);
+    put_rows(saved, cells, b.grown());
 }
 
-// Writes v into each cell of n rows at i.
-pub fn fill_rows<T: Copy>(cells: &mut [T], rows: usize, columns: usize, i: usize, n: usize, v: T)
-    requires { (i + n ≤ rows) × (rows * columns ≤ length cells.old) }
-    ensures { RowsFilled cells.old cells.new rows columns i n v }
+// Writes v into each cell of the rows.
+pub fn fill_rows<T: Copy>(cells: &mut [T], b: Block, v: T)
+    requires { (b.first + b.count ≤ b.rows) × (b.rows * b.columns ≤ length cells.old) }
+    ensures { RowsFilled cells.old cells.new b v }
 {
-    for c in 0..columns {
-        fill_range(cells, i + c * rows, n, v);
+    for c in 0..b.columns {
+        fill_range(cells, b.first + c * b.rows, b.count, v);
     }
 }
 
-// Puts n rows of v in at i.
+// Puts rows of v in.
 // To the right, columns from the last on.
-pub fn insert_rows<T: Copy>(cells: &mut [T], rows: usize, columns: usize, i: usize, n: usize, v: T)
-    requires { (i ≤ rows) × ((rows + n) * columns ≤ length cells.old) }
-    ensures { Inserted cells.old cells.new rows columns i n v }
+pub fn insert_rows<T: Copy>(cells: &mut [T], b: Block, v: T)
+    requires { (b.first ≤ b.rows) × ((b.rows + b.count) * b.columns ≤ length cells.old) }
+    ensures { Inserted cells.old cells.new b v }
 {
-    if columns == 0 {
+    if b.columns == 0 {
         return;
     }
-    extend_rows(cells, rows, columns, i, n);
-    fill_rows(cells, rows + n, columns, i, n, v);
+    extend_rows(cells, b);
+    fill_rows(cells, b.grown(), v);
 }
 
-// Copies n columns at i to another buffer, from `top` on.
-pub fn save_columns<T: Copy>(
-    cells: &[T],
-    rows: usize,
-    columns: usize,
-    i: usize,
-    n: usize,
-    saved: &mut [T],
-    top: usize,
-)
-    requires { (i + n ≤ columns) × (rows * columns ≤ length cells.now) × (top + rows * n ≤ length saved.old) }
-    ensures { Copied cells.now saved.old saved.new (i * rows) top (n * rows) }
-{
-    copy_block(cells, i * rows, saved, top, n * rows);
-}
+impl<'a, T: Copy> Table<'a, T> {
+    // Copies n lines at i to a store, column by column.
+    pub fn save_lines(&self, side: Side, i: u32, n: u32, saved: &mut Store<'_, T>)
+        requires there { i + n ≤ lines_in side self.now.rows self.now.columns }
+        requires fits { length (items saved.old) + cells_in side n self.now.rows self.now.columns ≤ room saved.old }
+        ensures saved { Saved self.now.cells.now (items saved.old) (items saved.new) (block_of side self.now.rows self.now.columns i n) }
+        ensures same { room saved.new ≡ room saved.old }
+    {
+        let b = self.block(side, i, n);
+        save_rows(self.cells, b, saved);
+    }
 
-// Saves n columns at i and takes them out.
-// The columns behind go to the left, from the first on, so a cell is read before it is written over.
-pub fn remove_columns<T: Copy>(
-    cells: &mut [T],
-    rows: usize,
-    columns: usize,
-    i: usize,
-    n: usize,
-    saved: &mut [T],
-    top: usize,
-)
-    requires { (i + n ≤ columns) × (rows * columns ≤ length cells.old) × (top + rows * n ≤ length saved.old) }
-    ensures saved { Copied cells.old saved.old saved.new (i * rows) top (n * rows) }
-    ensures table { Slid cells.old cells.new ((i + n) * rows) (i * rows) ((columns - (i + n)) * rows) }
-{
-    save_columns(cells, rows, columns, i, n, saved, top);
-    let next = i + n;
-    let behind = columns - next;
-    slide_left(cells, next * rows, i * rows, behind * rows);
-}
+    // Takes n lines out at i.
+    pub fn remove_lines(&mut self, side: Side, i: u32, n: u32)
+        requires { i + n ≤ lines_in side self.old.rows self.old.columns }
+        ensures cells { Compressed self.old.cells.now self.new.cells.now (block_of side self.old.rows self.old.columns i n) }
+        ensures shape { (rows_grown side n self.new.rows ≡ self.old.rows) × (columns_grown side n self.new.columns ≡ self.old.columns) }
+    {
+        let b = self.block(side, i, n);
+        compress_rows(self.cells, b);
+        match side {
+            Side::Rows => self.rows -= n,
+            Side::Columns => self.columns -= n,
+        }
+    }
 
-// Puts n columns of v in at i.
-// The columns from i on go to the right, from the last on, so a cell is read before it is written over.
-pub fn insert_columns<T: Copy>(
-    cells: &mut [T],
-    rows: usize,
-    columns: usize,
-    i: usize,
-    n: usize,
-    v: T,
-)
-    requires { (i ≤ columns) × (rows * (columns + n) ≤ length cells.old) }
-    ensures { ColumnsInserted cells.old cells.new rows columns i n v }
-{
-    let from = i * rows;
-    let gap = n * rows;
-    slide_right(cells, from, from + gap, (columns - i) * rows);
-    fill_range(cells, from, gap, v);
+    // Makes room for n lines at i; the shape is left to the caller. What then stands in the room is not said.
+    pub fn extend_lines(&mut self, side: Side, i: u32, n: u32)
+        requires there { i ≤ lines_in side self.old.rows self.old.columns }
+        requires fits { rows_grown side n self.old.rows * columns_grown side n self.old.columns ≤ length self.old.cells.now }
+        ensures cells { Extended self.old.cells.now self.new.cells.now (block_of side self.old.rows self.old.columns i n) }
+        ensures shape { (self.new.rows ≡ self.old.rows) × (self.new.columns ≡ self.old.columns) }
+    {
+        let b = self.block(side, i, n);
+        extend_rows(self.cells, b);
+    }
+
+    // Puts n lines of v in at i.
+    pub fn insert_lines(&mut self, side: Side, i: u32, n: u32, v: T)
+        requires there { i ≤ lines_in side self.old.rows self.old.columns }
+        requires fits { rows_grown side n self.old.rows * columns_grown side n self.old.columns ≤ length self.old.cells.now }
+        requires few { (rows_grown side n self.old.rows ≤ 4096) × (columns_grown side n self.old.columns ≤ 4096) }
+        ensures cells { Inserted self.old.cells.now self.new.cells.now (block_of side self.old.rows self.old.columns i n) v }
+        ensures shape { (self.new.rows ≡ rows_grown side n self.old.rows) × (self.new.columns ≡ columns_grown side n self.old.columns) }
+    {
+        let b = self.block(side, i, n);
+        insert_rows(self.cells, b, v);
+        self.grow(side, n);
+    }
+
+    // Counts n lines more.
+    pub fn grow(&mut self, side: Side, n: u32)
+        requires fits { rows_grown side n self.old.rows * columns_grown side n self.old.columns ≤ length self.old.cells.now }
+        requires few { (rows_grown side n self.old.rows ≤ 4096) × (columns_grown side n self.old.columns ≤ 4096) }
+        ensures cells { self.new.cells ≡ self.old.cells }
+        ensures shape { (self.new.rows ≡ rows_grown side n self.old.rows) × (self.new.columns ≡ columns_grown side n self.old.columns) }
+    {
+        match side {
+            Side::Rows => self.rows += n,
+            Side::Columns => self.columns += n,
+        }
+    }
 }

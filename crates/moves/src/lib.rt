@@ -1,6 +1,8 @@
-// Moves of blocks of cells inside one buffer, and on top of them the removal and insertion of rows
-// and columns of a table that lies column by column, after nalgebra's `edition.rs`.
+// Moves of blocks of cells inside one buffer, and on top of them lines of a table put in and taken out, after
+// nalgebra's `edition.rs`.
 #![tactic(auto)]
 
 pub mod blocks;
 pub mod edition;
+pub mod store;
+pub mod vec_storage;

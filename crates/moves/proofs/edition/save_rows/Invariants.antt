@@ -1,6 +1,8 @@
--- `save_rows` meets its contract.
+use Rattle.std.proofs.Common.{◌≡◌}
+use Rattle.moves.specs.Blocks.{rows_block}
+use Rattle.moves.specs.Stores.{items, room}
 use Rattle.moves.specs.Tables.{Saved}
 use Rattle.moves.proofs.edition.save_rows.Given as goal
 
 abbrev pub invariant-loop-c : goal.invariant-loop-c
-invariant-loop-c g l = Saved l.cells l.initial.saved l.saved l.rows l.c l.i l.n l.top
+invariant-loop-c g l = Saved l.cells (items l.initial.saved) (items l.saved) (rows_block l.b.rows l.c l.b.first l.b.count) × (room l.saved ≡ room l.initial.saved)

@@ -1,0 +1,33 @@
+-- The lines of a side, and some of them as rows of a table.
+use Rattle.std.specs.Prelude.{ℕ, ◌+◌, ◌*◌}
+use Rattle.layout.specs.declared.side.Side.{Side}
+use Rattle.layout.specs.declared.side.Side.TheVariants.{Rows, Columns}
+use Rattle.moves.specs.declared.vec_storage.Block.{Block}
+
+-- how many lines the side has
+abbrev pub lines_in : Side → (rows columns : ℕ) → ℕ
+lines_in Rows rows columns = rows
+lines_in Columns rows columns = columns
+
+-- the rows, and the columns, that a table has with n lines of the side more
+abbrev pub rows_grown : Side → (n rows : ℕ) → ℕ
+rows_grown Rows n rows = rows + n
+rows_grown Columns n rows = rows
+
+abbrev pub columns_grown : Side → (n columns : ℕ) → ℕ
+columns_grown Rows n columns = columns
+columns_grown Columns n columns = columns + n
+
+-- how many cells n lines of the side have
+abbrev pub cells_in : Side → (n rows columns : ℕ) → ℕ
+cells_in Rows n rows columns = n * columns
+cells_in Columns n rows columns = rows * n
+
+-- n rows at i
+abbrev pub rows_block : (rows columns i n : ℕ) → Block
+rows_block rows columns i n = record { rows = rows; columns = columns; first = i; count = n }
+
+-- n lines at i, as rows: a column is `rows` rows of the table seen as one column
+abbrev pub block_of : Side → (rows columns i n : ℕ) → Block
+block_of Rows rows columns i n = rows_block rows columns i n
+block_of Columns rows columns i n = rows_block (rows * columns) 1 (i * rows) (n * rows)

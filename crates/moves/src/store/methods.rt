@@ -1,0 +1,78 @@
+ghost use Rattle.std.specs.Prelude.{◌≡◌, ◌+◌, ◌-◌, ◌<◌, ◌≤◌, [], ◌∷◌, ◌++◌, length, take, drop};
+ghost use Rattle.moves.specs.Stores.{items, room};
+
+use super::Store;
+
+impl<'a, X> Store<'a, X> {
+    pub fn new(places: &'a mut [X]) -> Store<'a, X>
+        ensures empty { items result ≡ [] }
+        ensures same { room result ≡ length places.old }
+    {
+        Store { places, used: 0 }
+    }
+
+    pub fn as_slice(&self) -> &[X]
+        ensures { result.now ≡ items self.now }
+    {
+        &self.places[..self.used]
+    }
+
+    // The last n items.
+    pub fn newest(&self, n: usize) -> &[X]
+        requires { n ≤ length (items self.now) }
+        ensures { result.now ≡ drop (length (items self.now) - n) (items self.now) }
+    {
+        let all = self.as_slice();
+        &all[all.len() - n..]
+    }
+
+    pub fn len(&self) -> usize
+        ensures { result ≡ length (items self.now) }
+    {
+        self.used
+    }
+
+    // How many places there are, in use or not.
+    pub fn capacity(&self) -> usize
+        ensures { result ≡ room self.now }
+    {
+        self.places.len()
+    }
+
+    // Forgets the last n items.
+    pub fn forget(&mut self, n: usize)
+        requires { n ≤ length (items self.old) }
+        ensures left { items self.new ≡ take (length (items self.old) - n) (items self.old) }
+        ensures same { room self.new ≡ room self.old }
+    {
+        self.used -= n;
+    }
+
+    pub fn clear(&mut self)
+        ensures empty { items self.new ≡ [] }
+        ensures same { room self.new ≡ room self.old }
+    {
+        self.used = 0;
+    }
+}
+
+impl<'a, X: Copy> Store<'a, X> {
+    pub fn push(&mut self, item: X)
+        requires { length (items self.old) < room self.old }
+        ensures more { items self.new ≡ items self.old ++ item ∷ [] }
+        ensures same { room self.new ≡ room self.old }
+    {
+        self.places[self.used] = item;
+        self.used += 1;
+    }
+
+    pub fn extend_from_slice(&mut self, list: &[X])
+        requires { length (items self.old) + length list.now ≤ room self.old }
+        ensures more { items self.new ≡ items self.old ++ list.now }
+        ensures same { room self.new ≡ room self.old }
+    {
+        let end = self.used + list.len();
+        self.places[self.used..end].copy_from_slice(list);
+        self.used = end;
+    }
+}

@@ -1,0 +1,81 @@
+ghost use Rattle.std.specs.Prelude.{◌≡◌, ◌+◌, ◌*◌, ◌^◌, ◌<◌, ◌≤◌, length, take};
+ghost use Rattle.moves.specs.Blocks.{block_of, cells_in, lines_in, rows_block};
+
+use super::{Block, Table};
+use layout::side::Side;
+
+impl Block {
+    // The same rows of the table that has them more.
+    pub fn grown(self) -> Block
+        requires { self.rows + self.count < 2 ^ 64 }
+        ensures { result ≡ rows_block (self.rows + self.count) self.columns self.first self.count }
+    {
+        Block {
+            rows: self.rows + self.count,
+            ..self
+        }
+    }
+}
+
+impl<'a, T> Table<'a, T> {
+    // A table of no cell over the buffer.
+    pub fn new(cells: &'a mut [T]) -> Table<'a, T>
+        requires { length cells.old ≤ 65536 }
+        ensures { (result.rows ≡ 0) × (result.columns ≡ 0) × (result.cells.now ≡ cells.old) }
+    {
+        Table {
+            cells,
+            rows: 0,
+            columns: 0,
+        }
+    }
+
+    // The cells of the table, column by column.
+    pub fn as_slice(&self) -> &[T]
+        ensures { result.now ≡ take (self.now.rows * self.now.columns) self.now.cells.now }
+    {
+        &self.cells[..self.rows as usize * self.columns as usize]
+    }
+
+    // How many lines the side has.
+    pub fn count(&self, side: Side) -> u32
+        ensures { result ≡ lines_in side self.now.rows self.now.columns }
+    {
+        match side {
+            Side::Rows => self.rows,
+            Side::Columns => self.columns,
+        }
+    }
+
+    // How many cells n lines of the side have.
+    pub fn cells_in(&self, side: Side, n: u32) -> usize
+        ensures { result ≡ cells_in side n self.now.rows self.now.columns }
+    {
+        match side {
+            Side::Rows => n as usize * self.columns as usize,
+            Side::Columns => self.rows as usize * n as usize,
+        }
+    }
+
+    // The n lines at i as rows. A column is `rows` rows of the table seen as one column.
+    pub fn block(&self, side: Side, i: u32, n: u32) -> Block
+        ensures { result ≡ block_of side self.now.rows self.now.columns i n }
+    {
+        let (rows, columns) = (self.rows as usize, self.columns as usize);
+        let (first, count) = (i as usize, n as usize);
+        match side {
+            Side::Rows => Block {
+                rows,
+                columns,
+                first,
+                count,
+            },
+            Side::Columns => Block {
+                rows: rows * columns,
+                columns: 1,
+                first: first * rows,
+                count: count * rows,
+            },
+        }
+    }
+}
