@@ -1,5 +1,6 @@
 -- The questions that every change puts.
 use Rattle.std.specs.Prelude.{ℕ, ◌+◌, ◌*◌, ◌<◌, ◌≤◌, Bool, ◌&&◌, List, [], ◌∷◌, length, nat_le, nat_lt}
+use Rattle.moves.specs.Stores.{items, room}
 use Rattle.journal.specs.declared.parts.Parts.{Parts}
 use Rattle.model.specs.Journal.{Sheet}
 
@@ -17,7 +18,7 @@ rooms s m n k l =
 pub record Fits {A : Type 0} (p : Parts A) (m n k l : ℕ) : Type 0 where
   pub rows : m ≤ 4096
   pub columns : n ≤ 4096
-  pub cells : m * n ≤ length p.cells.now
-  pub entries : p.tops.entries < length p.entries.now
-  pub runs : p.tops.runs + k ≤ length p.runs.now
-  pub saved : p.tops.saved + l ≤ length p.saved.now
+  pub cells : m * n ≤ length p.table.cells.now
+  pub entries : length (items p.entries) < room p.entries
+  pub runs : length (items p.runs) + k ≤ room p.runs
+  pub saved : length (items p.saved) + l ≤ room p.saved

@@ -1,5 +1,5 @@
 -- The buffers read as the model's sheet.
-use Rattle.std.specs.Prelude.{ℕ, ◌*◌, ◌≤◌, List, map, reverse, length, take, Ok, Err, Result}
+use Rattle.std.specs.Prelude.{ℕ, ◌*◌, List, map, reverse, length, take, Ok, Err, Result}
 use Rattle.layout.specs.declared.refusal.Refusal.{Refusal}
 use Rattle.layout.specs.Refusals.{number_of}
 use Rattle.layout.specs.declared.side.Side.{Side}
@@ -9,6 +9,7 @@ use Rattle.journal.specs.declared.parts.Note.TheVariants.{Insertion, Removal, Li
 use Rattle.journal.specs.declared.parts.Run.{Run}
 use Rattle.journal.specs.declared.parts.Entry.{Entry}
 use Rattle.journal.specs.declared.parts.Parts.{Parts}
+use Rattle.moves.specs.Stores.{items, room}
 use Rattle.model.specs.Sheet as lines
 use Rattle.model.specs.Sheet.{Table}
 use Rattle.model.specs.Journal as model
@@ -39,44 +40,30 @@ abbrev pub run_of : Run → ℕ × ℕ
 run_of r = (r.offset, r.length)
 
 abbrev pub table_of : {A : Type 0} → Parts A → Table A
-table_of p = record { rows = p.rows; columns = p.columns; cells = take (p.rows * p.columns) p.cells.now }
+table_of p = record { rows = p.table.rows; columns = p.table.columns; cells = take (p.table.rows * p.table.columns) p.table.cells.now }
 
 -- the newest entry first
 abbrev pub entries_of : {A : Type 0} → Parts A → List model.Entry
-entries_of p = map entry_of (reverse (take p.tops.entries p.entries.now))
+entries_of p = map entry_of (reverse (items p.entries))
 
 abbrev pub runs_of : {A : Type 0} → Parts A → List (ℕ × ℕ)
-runs_of p = map run_of (take p.tops.runs p.runs.now)
+runs_of p = map run_of (items p.runs)
 
 abbrev pub saved_of : {A : Type 0} → Parts A → List A
-saved_of p = take p.tops.saved p.saved.now
+saved_of p = items p.saved
 
 -- a buffer's length is the room in it
 abbrev pub room_of : {A : Type 0} → Parts A → Room
 room_of p = record {
-  for_cells = length p.cells.now;
-  for_entries = length p.entries.now;
-  for_runs = length p.runs.now;
-  for_saved = length p.saved.now;
+  for_cells = length p.table.cells.now;
+  for_entries = room p.entries;
+  for_runs = room p.runs;
+  for_saved = room p.saved;
 }
 
--- what stands beyond the table and above the tops does not count
+-- what stands beyond the table and beyond a store's items does not count
 abbrev pub view : {A : Type 0} → Parts A → Sheet A
 view p = record { table = table_of p; entries = entries_of p; runs = runs_of p; saved = saved_of p; room = room_of p }
-
--- each top is within its buffer: `take` forgets one that is not, so the view does not tell
-abbrev pub TopsFit : {A : Type 0} → Parts A → Type 0
-TopsFit p =
-    (p.tops.entries ≤ length p.entries.now) × (p.tops.runs ≤ length p.runs.now) × (p.tops.saved ≤ length p.saved.now)
-
--- so few places for cells that a dense layout over them is lawful
-abbrev pub FewCells : {A : Type 0} → Parts A → Type 0
-FewCells p = length p.cells.now ≤ 65536
-
--- how many lines the side has
-abbrev pub lines_in : Side → (rows columns : ℕ) → ℕ
-lines_in Rows rows columns = rows
-lines_in Columns rows columns = columns
 
 -- the number of the first question that was answered no, or none
 abbrev pub answered : Result Unit Refusal → Answer

@@ -1,6 +1,9 @@
-ghost use Rattle.std.specs.Prelude.{◌≡◌, length};
+ghost use Rattle.std.specs.Prelude.{◌≡◌, ◌≤◌, length};
+ghost use Rattle.journal.specs.Entering.{Holds, entry_for};
 
 use layout::side::Side;
+use moves::store::Store;
+use moves::vec_storage::Table;
 
 // Which change an entry is of, and its numbers.
 #[derive(Clone, Copy, PartialEq, Eq, Debug)]
@@ -36,43 +39,44 @@ pub struct Entry {
     pub cells: usize,
 }
 
-// How much of each journal buffer is in use.
-#[derive(Clone, Copy)]
-pub struct Tops {
-    pub entries: usize,
-    pub runs: usize,
-    pub saved: usize,
-}
-
-// The four handed-in buffers of a sheet, its shape, and how much of the journal is in use.
+// A table and its journal, over four handed-in buffers.
 #[derive(Drop)]
 pub struct Parts<'a, T> {
-    pub cells: &'a mut [T],
-    pub entries: &'a mut [Entry],
-    pub runs: &'a mut [Run],
-    pub saved: &'a mut [T],
-    pub rows: u32,
-    pub columns: u32,
-    pub tops: Tops,
+    pub table: Table<'a, T>,
+    pub entries: Store<'a, Entry>,
+    pub runs: Store<'a, Run>,
+    pub saved: Store<'a, T>,
 }
 
-// Takes the parts out, to work on several buffers at once; empty ones stand there until they are put back.
-pub fn take_out<'a, T>(p: &mut Parts<'a, T>) -> Parts<'a, T>
-    ensures value { result ≡ p.old }
-    ensures left { (p.new.rows ≡ 0) × (p.new.columns ≡ 0) × (length p.new.cells.now ≡ 0) × (length p.new.saved.now ≡ 0) }
-{
-    let none = Parts {
-        cells: &mut [],
-        entries: &mut [],
-        runs: &mut [],
-        saved: &mut [],
-        rows: 0,
-        columns: 0,
-        tops: Tops {
-            entries: 0,
-            runs: 0,
-            saved: 0,
-        },
-    };
-    std::mem::replace(p, none)
+impl<'a, T> Parts<'a, T> {
+    // A table of no cell and an empty journal.
+    pub fn new(
+        cells: &'a mut [T],
+        entries: &'a mut [Entry],
+        runs: &'a mut [Run],
+        saved: &'a mut [T],
+    ) -> Parts<'a, T>
+        requires { length cells.old ≤ 65536 }
+        ensures { Holds result cells.old (length entries.old) (length runs.old) (length saved.old) }
+    {
+        Parts {
+            table: Table::new(cells),
+            entries: Store::new(entries),
+            runs: Store::new(runs),
+            saved: Store::new(saved),
+        }
+    }
+
+    // The entry of a change that is about to be made, with so many runs and saved cells of its own.
+    pub fn entry(&self, note: Note, runs: usize, cells: usize) -> Entry
+        ensures { result ≡ entry_for self.now note runs cells }
+    {
+        Entry {
+            note,
+            rows: self.table.rows,
+            columns: self.table.columns,
+            runs,
+            cells,
+        }
+    }
 }

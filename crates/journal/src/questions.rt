@@ -1,6 +1,6 @@
 ghost use Rattle.std.specs.Prelude.{◌≡◌};
 ghost use Rattle.model.specs.Journal.{done, first_no};
-ghost use Rattle.journal.specs.View.{TopsFit, answered, view};
+ghost use Rattle.journal.specs.View.{answered, view};
 ghost use Rattle.journal.specs.Asking.{Fits, rooms};
 
 use super::parts::Parts;
@@ -15,23 +15,22 @@ pub fn ask<T>(
     runs: usize,
     cells: usize,
 ) -> Result<(), Refusal>
-    requires { TopsFit p.now }
     ensures which { answered result ≡ first_no (rooms (view p.now) rows columns runs cells) }
     ensures goes { answered result ≡ done → Fits p.now rows columns runs cells }
 {
     if rows > 4096 || columns > 4096 {
         return Err(Refusal::TooManyLines);
     }
-    if rows * columns > p.cells.len() {
+    if rows * columns > p.table.cells.len() {
         return Err(Refusal::TooManyCells);
     }
-    if p.tops.entries >= p.entries.len() {
+    if p.entries.spare() == 0 {
         return Err(Refusal::JournalFull);
     }
-    if runs > p.runs.len() - p.tops.runs {
+    if runs > p.runs.spare() {
         return Err(Refusal::RunsFull);
     }
-    if cells > p.saved.len() - p.tops.saved {
+    if cells > p.saved.spare() {
         return Err(Refusal::SavedFull);
     }
     Ok(())

@@ -26,17 +26,18 @@ impl<'a, X> Store<'a, X> {
         &all[all.len() - n..]
     }
 
-    pub fn len(&self) -> usize
-        ensures { result ≡ length (items self.now) }
-    {
-        self.used
-    }
-
     // How many places there are, in use or not.
     pub fn capacity(&self) -> usize
         ensures { result ≡ room self.now }
     {
         self.places.len()
+    }
+
+    // How many items more there are places for.
+    pub fn spare(&self) -> usize
+        ensures { length (items self.now) + result ≡ room self.now }
+    {
+        self.places.len() - self.used
     }
 
     // Forgets the last n items.
