@@ -58,6 +58,12 @@ module _ {A : Type 0} (p : Parts A) where
         pub all_pass : length (items p.saved) + l ≤ room p.saved → done ≡ first_no (rooms (view p) m n k l)
         all_pass h = from_seven done (passes 7 (leb (length (saved_of p) + l) (room p.saved)) [] done (le-leb (length (saved_of p) + l) (room p.saved) h) refl)
 
+-- the questions asked of numbers that come to the same
+pub asked_as :
+    {A : Type 0} (p : Parts A) (a : Answer) (m n k l m' n' k' l' : ℕ) → m ≡ m' → n ≡ n' → k ≡ k' → l ≡ l'
+    → a ≡ first_no (rooms (view p) m n k l) → a ≡ first_no (rooms (view p) m' n' k' l')
+asked_as p a m n k l m' n' k' l' em en ek el h = h ∙ (λ i. first_no (rooms (view p) (em i) (en i) (ek i) (el i)))
+
 -- the verdict from the counts: one for all changes
 pub verdict_is :
     {A : Type 0} (s : Sheet A) (ch : Change A) (m n : ℕ) (rs : List (ℕ × ℕ)) (l : ℕ) → Counts s.table ch m n rs l

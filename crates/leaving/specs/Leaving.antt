@@ -1,26 +1,30 @@
 -- What every undo leaves besides the cells.
-use Rattle.std.specs.Prelude.{◌≡◌, ◌-◌, List, ◌∷◌, map, reverse, length, take}
+use Rattle.std.specs.Prelude.{◌≡◌, ◌-◌, ◌*◌, ◌≤◌, List, ◌∷◌, map, reverse, length, take}
+use Rattle.moves.specs.Stores.{items}
 use Rattle.journal.specs.declared.parts.Entry.{Entry}
 use Rattle.journal.specs.declared.parts.Parts.{Parts}
-use Rattle.journal.specs.View.{entries_of, entry_of}
+use Rattle.journal.specs.View.{entries_of, entry_of, room_of}
 use Rattle.model.specs.Journal as model
 
 -- the entries below the newest
 abbrev pub below : {A : Type 0} → Parts A → List model.Entry
-below p = map entry_of (reverse (take (p.tops.entries - 1) p.entries.now))
+below p = map entry_of (reverse (take (length (items p.entries) - 1) (items p.entries)))
 
 -- this entry is the newest
 abbrev pub Newest : {A : Type 0} → Parts A → Entry → Type 0
 Newest p entry = entries_of p ≡ entry_of entry ∷ below p
 
--- the shape before the entry, and lower tops
+-- the shape before the entry is one of few lines, and there is room for it
+pub record FormerFits {A : Type 0} (p : Parts A) (entry : Entry) : Type 0 where
+  pub rows : entry.rows ≤ 4096
+  pub columns : entry.columns ≤ 4096
+  pub cells : entry.rows * entry.columns ≤ length p.table.cells.now
+
+-- the shape before the entry, and the entry, its runs and its saved cells freed
 pub record TakesBack {A : Type 0} (p q : Parts A) (entry : Entry) : Type 0 where
-  pub rows : q.rows ≡ entry.rows
-  pub columns : q.columns ≡ entry.columns
-  pub entries : q.entries.now ≡ p.entries.now
-  pub runs : q.runs.now ≡ p.runs.now
-  pub saved : q.saved.now ≡ p.saved.now
-  pub long : length q.cells.now ≡ length p.cells.now
-  pub entries_top : q.tops.entries ≡ p.tops.entries - 1
-  pub runs_top : q.tops.runs ≡ p.tops.runs - entry.runs
-  pub saved_top : q.tops.saved ≡ p.tops.saved - entry.cells
+  pub rows : q.table.rows ≡ entry.rows
+  pub columns : q.table.columns ≡ entry.columns
+  pub entries : items q.entries ≡ take (length (items p.entries) - 1) (items p.entries)
+  pub runs : items q.runs ≡ take (length (items p.runs) - entry.runs) (items p.runs)
+  pub saved : items q.saved ≡ take (length (items p.saved) - entry.cells) (items p.saved)
+  pub room : room_of q ≡ room_of p

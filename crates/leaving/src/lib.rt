@@ -1,24 +1,25 @@
 // How entries leave the journal: the newest one with its runs and saved cells, or all of them.
 #![tactic(auto)]
 
-ghost use Rattle.std.specs.Prelude.{◌≡◌, ◌<◌, ◌≤◌, Ok};
+ghost use Rattle.std.specs.Prelude.{◌≡◌, ◌<◌, ◌≤◌, length, Ok};
+ghost use Rattle.moves.specs.Stores.{items};
 ghost use Rattle.model.specs.Journal.{settle};
 ghost use Rattle.journal.specs.Answering.{Answers, Held};
-ghost use Rattle.leaving.specs.Leaving.{TakesBack};
+ghost use Rattle.leaving.specs.Leaving.{FormerFits, TakesBack};
 
-use journal::parts::{Entry, Parts, Tops};
+use journal::parts::{Entry, Parts};
 
 // Brings back the shape before the entry, and frees the entry, its runs and its saved cells.
 pub fn leave<T>(p: &mut Parts<'_, T>, entry: Entry)
-    requires { (0 < p.old.tops.entries) × (entry.runs ≤ p.old.tops.runs) × (entry.cells ≤ p.old.tops.saved) }
+    requires there { (0 < length (items p.old.entries)) × (entry.runs ≤ length (items p.old.runs)) × (entry.cells ≤ length (items p.old.saved)) }
+    requires fits { FormerFits p.old entry }
     ensures rest { TakesBack p.old p.new entry }
-    ensures cells { p.new.cells ≡ p.old.cells }
+    ensures cells { p.new.table.cells ≡ p.old.table.cells }
 {
-    p.rows = entry.rows;
-    p.columns = entry.columns;
-    p.tops.entries -= 1;
-    p.tops.runs -= entry.runs;
-    p.tops.saved -= entry.cells;
+    p.table.set_shape(entry.rows, entry.columns);
+    p.entries.forget(1);
+    p.runs.forget(entry.runs);
+    p.saved.forget(entry.cells);
 }
 
 // Frees all entries, runs and saved cells.
@@ -26,9 +27,7 @@ pub fn settle<T>(p: &mut Parts<'_, T>)
     requires { Held p.old }
     ensures { Answers p.old p.new settle (Ok tt) }
 {
-    p.tops = Tops {
-        entries: 0,
-        runs: 0,
-        saved: 0,
-    };
+    p.entries.clear();
+    p.runs.clear();
+    p.saved.clear();
 }

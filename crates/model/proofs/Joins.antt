@@ -1,6 +1,7 @@
 -- From cells, place by place, to the lists of the model. The buffer's places are written as the moves have them.
 use Rattle.std.proofs.Common.{◌≡◌, ℕ, ◌+◌, ◌-◌, ◌*◌, ◌<◌, ◌≤◌, true, List, [], ◌∷◌, ◌++◌, length, get_or, take, drop, sym, refl, ap, ◌∙◌, ap₂, arith, length-take}
 use Rattle.std.specs.List.{flat_map, AllByRecursion as All}
+use Rattle.std.proofs.Math.Seq.{take-length}
 use Rattle.std.proofs.lemmas.List.{take-take, drop-take, drop_more, length-take-le, same_lists, get_or-take}
 use Rattle.std.proofs.lemmas.Nat.{mul-add-lt}
 use Rattle.model.specs.Sheet.{old, new, Change, Table, cell_at, cell_of, rows_of, columns_of, changed}
@@ -115,3 +116,14 @@ put_behind was is top n lost long room below back =
     ∙ ap₂ ◌++◌
     (same_lists (take top is) (take top was) (l1 ∙ sym l2) (λ k d b. get_or-take top is k d (omega arith) ∙ below k d (omega arith) ∙ sym (get_or-take top was k d (omega arith))))
     back
+
+-- cells written behind the others
+pub put_on :
+    {A : Type 0} (was is : List A) (n : ℕ) (more : List A) → length is ≡ length was + n
+    → ((k : ℕ) (d : A) → k < length was → get_or is k d ≡ get_or was k d) → take n (drop (length was) is) ≡ more
+    → is ≡ was ++ more
+put_on was is n more long below back =
+    let top = length was in
+    let l1 = length-take-le top is (omega arith) in
+    sym (take-length is) ∙ ap (λ z. take z is) long ∙ sym (take_then top n is)
+    ∙ ap₂ ◌++◌ (same_lists (take top is) was l1 (λ k d b. get_or-take top is k d (omega arith) ∙ below k d (omega arith))) back

@@ -3,3 +3,4 @@ pub mod Slides
 pub mod Rows
 pub mod Saves
 pub mod Sides
+pub mod Flat

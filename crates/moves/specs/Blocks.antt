@@ -1,5 +1,5 @@
 -- The lines of a side, and some of them as rows of a table.
-use Rattle.std.specs.Prelude.{ℕ, ◌+◌, ◌*◌}
+use Rattle.std.specs.Prelude.{ℕ, ◌*◌}
 use Rattle.layout.specs.declared.side.Side.{Side}
 use Rattle.layout.specs.declared.side.Side.TheVariants.{Rows, Columns}
 use Rattle.moves.specs.declared.vec_storage.Block.{Block}
@@ -9,14 +9,17 @@ abbrev pub lines_in : Side → (rows columns : ℕ) → ℕ
 lines_in Rows rows columns = rows
 lines_in Columns rows columns = columns
 
--- the rows, and the columns, that a table has with n lines of the side more
-abbrev pub rows_grown : Side → (n rows : ℕ) → ℕ
-rows_grown Rows n rows = rows + n
-rows_grown Columns n rows = rows
+-- the rows, the columns and the cells of a table that is given k lines of the side
+abbrev pub rows_with : Side → (k rows : ℕ) → ℕ
+rows_with Rows k rows = k
+rows_with Columns k rows = rows
 
-abbrev pub columns_grown : Side → (n columns : ℕ) → ℕ
-columns_grown Rows n columns = columns
-columns_grown Columns n columns = columns + n
+abbrev pub columns_with : Side → (k columns : ℕ) → ℕ
+columns_with Rows k columns = columns
+columns_with Columns k columns = k
+
+abbrev pub cells_with : Side → (k rows columns : ℕ) → ℕ
+cells_with side k rows columns = rows_with side k rows * columns_with side k columns
 
 -- how many cells n lines of the side have
 abbrev pub cells_in : Side → (n rows columns : ℕ) → ℕ

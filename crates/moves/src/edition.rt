@@ -1,7 +1,7 @@
 // Rows put into and taken out of a table that lies column by column at the start of a buffer: the cell of row r and
 // column c is at r + c * rows. The lines of either side are such rows.
-ghost use Rattle.std.specs.Prelude.{◌≡◌, ◌+◌, ◌*◌, ◌≤◌, length};
-ghost use Rattle.moves.specs.Blocks.{block_of, cells_in, columns_grown, lines_in, rows_grown};
+ghost use Rattle.std.specs.Prelude.{◌≡◌, ◌+◌, ◌-◌, ◌*◌, ◌≤◌, length};
+ghost use Rattle.moves.specs.Blocks.{block_of, cells_in, cells_with, columns_with, lines_in, rows_with};
 ghost use Rattle.moves.specs.Stores.{items, room};
 ghost use Rattle.moves.specs.Tables.{Compressed, Extended, Inserted, Opened, Put, Restored, RowsFilled, Saved};
 
@@ -143,20 +143,18 @@ impl<'a, T: Copy> Table<'a, T> {
     pub fn remove_lines(&mut self, side: Side, i: u32, n: u32)
         requires { i + n ≤ lines_in side self.old.rows self.old.columns }
         ensures cells { Compressed self.old.cells.now self.new.cells.now (block_of side self.old.rows self.old.columns i n) }
-        ensures shape { (rows_grown side n self.new.rows ≡ self.old.rows) × (columns_grown side n self.new.columns ≡ self.old.columns) }
+        ensures shape { (self.new.rows ≡ rows_with side (lines_in side self.old.rows self.old.columns - n) self.old.rows) × (self.new.columns ≡ columns_with side (lines_in side self.old.rows self.old.columns - n) self.old.columns) }
     {
         let b = self.block(side, i, n);
+        let left = self.count(side) - n;
         compress_rows(self.cells, b);
-        match side {
-            Side::Rows => self.rows -= n,
-            Side::Columns => self.columns -= n,
-        }
+        self.set_count(side, left);
     }
 
     // Makes room for n lines at i; the shape is left to the caller. What then stands in the room is not said.
     pub fn extend_lines(&mut self, side: Side, i: u32, n: u32)
         requires there { i ≤ lines_in side self.old.rows self.old.columns }
-        requires fits { rows_grown side n self.old.rows * columns_grown side n self.old.columns ≤ length self.old.cells.now }
+        requires fits { cells_with side (lines_in side self.old.rows self.old.columns + n) self.old.rows self.old.columns ≤ length self.old.cells.now }
         ensures cells { Extended self.old.cells.now self.new.cells.now (block_of side self.old.rows self.old.columns i n) }
         ensures shape { (self.new.rows ≡ self.old.rows) × (self.new.columns ≡ self.old.columns) }
     {
@@ -167,26 +165,14 @@ impl<'a, T: Copy> Table<'a, T> {
     // Puts n lines of v in at i.
     pub fn insert_lines(&mut self, side: Side, i: u32, n: u32, v: T)
         requires there { i ≤ lines_in side self.old.rows self.old.columns }
-        requires fits { rows_grown side n self.old.rows * columns_grown side n self.old.columns ≤ length self.old.cells.now }
-        requires few { (rows_grown side n self.old.rows ≤ 4096) × (columns_grown side n self.old.columns ≤ 4096) }
+        requires few { lines_in side self.old.rows self.old.columns + n ≤ 4096 }
+        requires fits { cells_with side (lines_in side self.old.rows self.old.columns + n) self.old.rows self.old.columns ≤ length self.old.cells.now }
         ensures cells { Inserted self.old.cells.now self.new.cells.now (block_of side self.old.rows self.old.columns i n) v }
-        ensures shape { (self.new.rows ≡ rows_grown side n self.old.rows) × (self.new.columns ≡ columns_grown side n self.old.columns) }
+        ensures shape { (self.new.rows ≡ rows_with side (lines_in side self.old.rows self.old.columns + n) self.old.rows) × (self.new.columns ≡ columns_with side (lines_in side self.old.rows self.old.columns + n) self.old.columns) }
     {
         let b = self.block(side, i, n);
+        let more = self.count(side) + n;
         insert_rows(self.cells, b, v);
-        self.grow(side, n);
-    }
-
-    // Counts n lines more.
-    pub fn grow(&mut self, side: Side, n: u32)
-        requires fits { rows_grown side n self.old.rows * columns_grown side n self.old.columns ≤ length self.old.cells.now }
-        requires few { (rows_grown side n self.old.rows ≤ 4096) × (columns_grown side n self.old.columns ≤ 4096) }
-        ensures cells { self.new.cells ≡ self.old.cells }
-        ensures shape { (self.new.rows ≡ rows_grown side n self.old.rows) × (self.new.columns ≡ columns_grown side n self.old.columns) }
-    {
-        match side {
-            Side::Rows => self.rows += n,
-            Side::Columns => self.columns += n,
-        }
+        self.set_count(side, more);
     }
 }

@@ -1,5 +1,5 @@
 ghost use Rattle.std.specs.Prelude.{◌≡◌, ◌+◌, ◌*◌, ◌^◌, ◌<◌, ◌≤◌, length, take};
-ghost use Rattle.moves.specs.Blocks.{block_of, cells_in, lines_in, rows_block};
+ghost use Rattle.moves.specs.Blocks.{block_of, cells_in, cells_with, columns_with, lines_in, rows_block, rows_with};
 
 use super::{Block, Table};
 use layout::side::Side;
@@ -44,6 +44,40 @@ impl<'a, T> Table<'a, T> {
         match side {
             Side::Rows => self.rows,
             Side::Columns => self.columns,
+        }
+    }
+
+    // The rows and the columns, were there k lines of the side.
+    pub fn shape_with(&self, side: Side, k: usize) -> (usize, usize)
+        ensures { (result.0 ≡ rows_with side k self.now.rows) × (result.1 ≡ columns_with side k self.now.columns) }
+    {
+        match side {
+            Side::Rows => (k, self.columns as usize),
+            Side::Columns => (self.rows as usize, k),
+        }
+    }
+
+    // Gives the table another shape; the cells are left to the caller.
+    pub fn set_shape(&mut self, rows: u32, columns: u32)
+        requires few { (rows ≤ 4096) × (columns ≤ 4096) }
+        requires fits { rows * columns ≤ length self.old.cells.now }
+        ensures cells { self.new.cells ≡ self.old.cells }
+        ensures shape { (self.new.rows ≡ rows) × (self.new.columns ≡ columns) }
+    {
+        self.rows = rows;
+        self.columns = columns;
+    }
+
+    // Gives the side k lines; the cells are left to the caller.
+    pub fn set_count(&mut self, side: Side, k: u32)
+        requires few { k ≤ 4096 }
+        requires fits { cells_with side k self.old.rows self.old.columns ≤ length self.old.cells.now }
+        ensures cells { self.new.cells ≡ self.old.cells }
+        ensures shape { (self.new.rows ≡ rows_with side k self.old.rows) × (self.new.columns ≡ columns_with side k self.old.columns) }
+    {
+        match side {
+            Side::Rows => self.rows = k,
+            Side::Columns => self.columns = k,
         }
     }
 

@@ -1,13 +1,14 @@
 -- Rows taken out and put in, from places of the buffer to the model's tables.
-use Rattle.std.proofs.Common.{◌≡◌, ℕ, ◌+◌, ◌-◌, ◌*◌, ◌≤◌, List, ◌++◌, length, get_or, take, drop, sym, ap, ◌∙◌, inl, inr, mul-le-mul_right, arith}
+use Rattle.std.proofs.Common.{◌≡◌, ℕ, ◌+◌, ◌-◌, ◌*◌, ◌≤◌, List, ◌++◌, length, get_or, take, drop, sym, ap, ◌∙◌, inl, inr, mul_comm, mul-le-mul_right, arith}
 use Rattle.std.proofs.lemmas.List.{get_or-drop, length-drop}
 use Rattle.std.proofs.lemmas.Nat.{mul-add-lt}
 use Rattle.std.proofs.lemmas.Bool.{cases_lt}
+use Rattle.moves.specs.Blocks.{rows_block}
 use Rattle.moves.specs.Tables.{Compressed, Saved, Inserted}
 use Rattle.model.specs.Sheet.{old, new, row, Change, remove_lines, insert_lines, Table, cell_at, cell_of, rows_of, columns_of, changed}
 use Rattle.model.specs.Journal.{Right, lost_of}
 use Rattle.model.proofs.Lines.{keep_at, insert_upper, insert_new, insert_lower, remove_upper, remove_lower}
-use Rattle.model.proofs.Joins.{table_cells, changed_cells, old_cell, the_cell, cell_of_lem, same_cell, lying, put_behind}
+use Rattle.model.proofs.Joins.{table_cells, changed_cells, old_cell, the_cell, cell_of_lem, same_cell, lying, put_on}
 use Rattle.model.proofs.Regions.{region, region_right, region_at}
 use Rattle.model.proofs.Counting.{rows_removed, rows_removed_lost, rows_inserted}
 
@@ -23,7 +24,7 @@ module _ {A : Type 0} (t : Table A) (right : Right t) (xs : List A) (lies : t.ce
   fits = lying t xs right lies
 
   -- the table without the rows
-  pub compressed_cells : i + n ≤ t.rows → (ys : List A) → Compressed xs ys t.rows t.columns i n
+  pub compressed_cells : i + n ≤ t.rows → (ys : List A) → Compressed xs ys (rows_block t.rows t.columns i n)
       → take ((t.rows - n) * t.columns) ys ≡ (changed t (remove_lines row i n)).cells
   compressed_cells there ys h =
       let m = t.rows in
@@ -41,21 +42,20 @@ module _ {A : Type 0} (t : Table A) (right : Right t) (xs : List A) (lies : t.ce
       ])
 
   -- the cells that went
-  pub saved_cells : i + n ≤ t.rows → (was is : List A) (top : ℕ) → top + n * t.columns ≤ length was
-      → Saved xs was is t.rows t.columns i n top
-      → take (top + n * t.columns) is ≡ take top was ++ lost_of t (remove_lines row i n)
-  saved_cells there was is top room h =
+  pub saved_cells : i + n ≤ t.rows → (was is : List A) → Saved xs was is (rows_block t.rows t.columns i n)
+      → is ≡ was ++ lost_of t (remove_lines row i n)
+  saved_cells there was is h =
       let m = t.rows in
       let C = t.columns in
       let whole = fits in
-      let long : length is ≡ length was = h.long in
-      let ld = length-drop top is in
-      put_behind was is top (n * C) (lost_of t (remove_lines row i n)) long room h.below
-      (table_cells (region t i n 0 C) (drop top is) (region_right t right i n 0 C there (omega arith)) (omega arith) (λ r c a b.
+      let long : length is ≡ length was + n * C = omega (arith, h.long, mul_comm n C) in
+      let ld = length-drop (length was) is in
+      put_on was is (n * C) (lost_of t (remove_lines row i n)) long h.below
+      (table_cells (region t i n 0 C) (drop (length was) is) (region_right t right i n 0 C there (omega arith)) (omega arith) (λ r c a b.
       let below = mul-add-lt c n r C b a in
       let inside = mul-add-lt c m (i + r) C b (omega arith) in
-      same_cell (drop top is) xs (r + c * n) (i + r + c * m) (omega arith) (omega arith)
-      (λ d. get_or-drop top is (r + c * n) d ∙ h.saved r c d a b)
+      same_cell (drop (length was) is) xs (r + c * n) (i + r + c * m) (omega arith) (omega arith)
+      (λ d. get_or-drop (length was) is (r + c * n) d ∙ h.saved r c d a b)
       ∙ sym (cell_of_lem t xs lies (i + r) c (omega arith) b)
       ∙ ap (cell_at t (i + r)) (let e : c ≡ 0 + c = omega arith in e)
       ∙ sym (region_at t right i n 0 C there (omega arith) r c a b))
@@ -63,7 +63,7 @@ module _ {A : Type 0} (t : Table A) (right : Right t) (xs : List A) (lies : t.ce
 
   -- the table with the rows
   pub inserted_cells : i ≤ t.rows → (v : A) (ys : List A) → (t.rows + n) * t.columns ≤ length xs
-      → Inserted xs ys t.rows t.columns i n v
+      → Inserted xs ys (rows_block t.rows t.columns i n) v
       → take ((t.rows + n) * t.columns) ys ≡ (changed t (insert_lines row i n v)).cells
   inserted_cells there v ys room h =
       let m = t.rows in

@@ -1,0 +1,81 @@
+// Lines put into and taken out of a sheet, on its buffers: the questions, the moves, the entry.
+#![tactic(auto)]
+
+ghost use Rattle.std.specs.Prelude.{◌+◌, ◌-◌, ◌≤◌, [], length};
+ghost use Rattle.moves.specs.Blocks.{cells_in, columns_with, lines_in, rows_with};
+ghost use Rattle.model.specs.Sheet.{insert_lines, remove_lines};
+ghost use Rattle.model.specs.Journal.{change, one_run};
+ghost use Rattle.journal.specs.View.{side_of};
+ghost use Rattle.journal.specs.Asking.{Fits};
+ghost use Rattle.journal.specs.Answering.{Answers, Held, Performed};
+
+use journal::entering::{note_run, run_count};
+use journal::parts::{Note, Parts};
+use journal::questions::ask;
+use layout::refusal::Refusal;
+use layout::side::Side;
+
+// Takes out n lines at i.
+pub fn remove_lines<T: Copy>(
+    p: &mut Parts<'_, T>,
+    side: Side,
+    i: u32,
+    n: u32,
+) -> Result<(), Refusal>
+    requires { Held p.old }
+    ensures { Answers p.old p.new (change (remove_lines (side_of side) i n)) result }
+{
+    let count = p.table.count(side) as usize;
+    if i as usize + n as usize > count {
+        return Err(Refusal::NoSuchLine);
+    }
+    let (rows, columns) = p.table.shape_with(side, count - n as usize);
+    let lost = p.table.cells_in(side, n);
+    ask(p, rows, columns, run_count(i, n), lost)?;
+    cut_lines(p, side, i, n);
+    Ok(())
+}
+
+fn cut_lines<T: Copy>(p: &mut Parts<'_, T>, side: Side, i: u32, n: u32)
+    requires there { i + n ≤ lines_in side p.old.table.rows p.old.table.columns }
+    requires fits { Fits p.old (rows_with side (lines_in side p.old.table.rows p.old.table.columns - n) p.old.table.rows) (columns_with side (lines_in side p.old.table.rows p.old.table.columns - n) p.old.table.columns) (length (one_run i n)) (cells_in side n p.old.table.rows p.old.table.columns) }
+    ensures { Performed p.old p.new (remove_lines (side_of side) i n) (rows_with side (lines_in side p.old.table.rows p.old.table.columns - n) p.old.table.rows) (columns_with side (lines_in side p.old.table.rows p.old.table.columns - n) p.old.table.columns) (one_run i n) (cells_in side n p.old.table.rows p.old.table.columns) }
+{
+    let lost = p.table.cells_in(side, n);
+    let entry = p.entry(Note::Removal(side, i, n), run_count(i, n), lost);
+    p.table.save_lines(side, i, n, &mut p.saved);
+    p.table.remove_lines(side, i, n);
+    note_run(&mut p.runs, i, n);
+    p.entries.push(entry);
+}
+
+// Puts in n lines of v before line i.
+pub fn insert_lines<T: Copy>(
+    p: &mut Parts<'_, T>,
+    side: Side,
+    i: u32,
+    n: u32,
+    v: T,
+) -> Result<(), Refusal>
+    requires { Held p.old }
+    ensures { Answers p.old p.new (change (insert_lines (side_of side) i n v)) result }
+{
+    let count = p.table.count(side);
+    if i > count {
+        return Err(Refusal::NoSuchLine);
+    }
+    let (rows, columns) = p.table.shape_with(side, count as usize + n as usize);
+    ask(p, rows, columns, 0, 0)?;
+    put_lines(p, side, i, n, v);
+    Ok(())
+}
+
+fn put_lines<T: Copy>(p: &mut Parts<'_, T>, side: Side, i: u32, n: u32, v: T)
+    requires there { i ≤ lines_in side p.old.table.rows p.old.table.columns }
+    requires fits { Fits p.old (rows_with side (lines_in side p.old.table.rows p.old.table.columns + n) p.old.table.rows) (columns_with side (lines_in side p.old.table.rows p.old.table.columns + n) p.old.table.columns) 0 0 }
+    ensures { Performed p.old p.new (insert_lines (side_of side) i n v) (rows_with side (lines_in side p.old.table.rows p.old.table.columns + n) p.old.table.rows) (columns_with side (lines_in side p.old.table.rows p.old.table.columns + n) p.old.table.columns) [] 0 }
+{
+    let entry = p.entry(Note::Insertion(side, i, n), 0, 0);
+    p.table.insert_lines(side, i, n, v);
+    p.entries.push(entry);
+}
