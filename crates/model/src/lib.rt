@@ -9,36 +9,26 @@ ghost use Rattle.model.specs.Pieces.{Pieces};
 ghost use Rattle.model.specs.Provenance.{Cells, Interleaved};
 
 // Where each line comes from, piece by piece.
-pub fn origins_in_pieces() -> u8
+pub fn origins_in_pieces()
     ensures { Pieces }
-{
-    0
-}
+{}
 
 // An undo brings back the very sheet before the last accepted change, for every kind of cell.
-pub fn undo_takes_back<T>() -> u8
+pub fn undo_takes_back<T>()
     ensures { TakesBack T }
-{
-    0
-}
+{}
 
 // The remaining calls alone lead to the same sheet.
-pub fn replay_holds<T>() -> u8
+pub fn replay_holds<T>()
     ensures { Replay T }
-{
-    0
-}
+{}
 
 // After every list of calls each cell is told by the descents of its row and its column.
-pub fn cells_hold<T>() -> u8
+pub fn cells_hold<T>()
     ensures { Cells T }
-{
-    0
-}
+{}
 
 // Row calls and column calls may mix in any way.
-pub fn interleavings_agree<T>() -> u8
+pub fn interleavings_agree<T>()
     ensures { Interleaved T }
-{
-    0
-}
+{}

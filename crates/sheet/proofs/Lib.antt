@@ -1,4 +1,3 @@
 pub mod Cells
 pub mod Openings
 pub mod Gapping
-pub mod Keeping

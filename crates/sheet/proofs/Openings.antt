@@ -14,8 +14,8 @@ use Rattle.model.proofs.Grids.{Single, Singles, length_grid, grid_at, all_counti
 use Rattle.model.proofs.Joins.{table_cells, same_cell}
 use Rattle.model.proofs.Reaching.{opened_reached}
 use Rattle.journal.specs.declared.parts.Parts.{Parts}
-use Rattle.journal.specs.View.{TopsFit, room_of, view, FewCells}
-use Rattle.sheet.specs.Opening.{Filled, opening_rules, table_in}
+use Rattle.journal.specs.View.{room_of, view}
+use Rattle.sheet.specs.Opening.{opening_rules, table_in}
 
 module _ {A : Type 0} (grid : Grid) (law : Lawful grid) (xs : List A) (reached : grid.span ≤ length xs) where
   read : ℕ × ℕ → List A
@@ -61,23 +61,15 @@ module _ {A : Type 0} (grid : Grid) (law : Lawful grid) (xs : List A) (reached :
   opened_reachable room fits = opened_reached (table_in grid xs) room (record { right = table_right; rows = law.few_rows; columns = law.few_columns; cells = fits })
 
 -- what stands in the buffers once they are filled
-module _ {A : Type 0} (grid : Grid) (law : Lawful grid) (source : List A) (p q : Parts A) (w : Filled grid source p q)
-    (rules : Passes (opening_rules grid (length source) (room_of p))) where
-  pub filled_ghosts : TopsFit q × Reachable (view q) × FewCells q
-  filled_ghosts = (
-    w.tops,
-    subst Reachable (sym w.state) (opened_reachable grid law source rules.1.1.1.0 (room_of p) rules.1.1.0),
-    subst (λ n. n ≤ 65536) (sym (ap (λ s. s.room.for_cells) w.state)) rules.0.0,
-  )
+pub filled_reachable :
+    {A : Type 0} (grid : Grid) (law : Lawful grid) (source : List A) (q : Parts A) (r : Room) → Passes (opening_rules grid (length source) r)
+    → view q ≡ opened (table_in grid source) r → Reachable (view q)
+filled_reachable grid law source q r rules is = subst Reachable (sym is) (opened_reachable grid law source rules.1.1.1.0 r rules.1.1.0)
 
 -- and where that was asked first
-pub refilled_ghosts :
-    {A : Type 0} (grid : Grid) → Lawful grid → (source : List A) (p q : Parts A) (r : Result Unit Refusal) → TopsFit p → Reachable (view p) → FewCells p
-    → Checked (opening_rules grid (length source) (room_of p)) r → MatchResult r (λ _. Filled grid source p q) (λ _. q ≡ p)
-    → TopsFit q × Reachable (view q) × FewCells q
-refilled_ghosts grid law source p q (Ok u) tops reachable few rules w = filled_ghosts grid law source p q w rules
-refilled_ghosts {A} grid law source p q (Err e) tops reachable few rules same = (
-  subst (λ (z : Parts A). TopsFit z) (sym same) tops,
-  subst (λ (z : Parts A). Reachable (view z)) (sym same) reachable,
-  subst (λ (z : Parts A). FewCells z) (sym same) few,
-)
+pub refilled_reachable :
+    {A : Type 0} (grid : Grid) → Lawful grid → (source : List A) (p q : Parts A) (r : Result Unit Refusal) → Reachable (view p)
+    → Checked (opening_rules grid (length source) (room_of p)) r
+    → MatchResult r (λ _. view q ≡ opened (table_in grid source) (room_of p)) (λ _. q ≡ p) → Reachable (view q)
+refilled_reachable grid law source p q (Ok u) reachable rules w = filled_reachable grid law source q (room_of p) rules w
+refilled_reachable {A} grid law source p q (Err e) reachable rules same = subst (λ (z : Parts A). Reachable (view z)) (sym same) reachable

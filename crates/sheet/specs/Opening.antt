@@ -5,9 +5,7 @@ use Rattle.layout.specs.declared.refusal.Refusal.{Refusal}
 use Rattle.layout.specs.Lawful.{Grid}
 use Rattle.layout.specs.Checks.{Rule, ◌else◌}
 use Rattle.model.specs.Sheet.{Table, cell_at}
-use Rattle.model.specs.Journal.{Room, opened, places}
-use Rattle.journal.specs.declared.parts.Parts.{Parts}
-use Rattle.journal.specs.View.{TopsFit, room_of, view}
+use Rattle.model.specs.Journal.{Room, places}
 
 -- the table that a layout has in a buffer, column by column
 abbrev pub table_in : {A : Type 0} → Grid → List A → Table A
@@ -36,11 +34,6 @@ opening_rules grid source r =
     ∷ ((grid.rows * grid.columns ≤ r.for_cells) else Refusal.TooManyCells)
     ∷ ((grid.span ≤ source) else Refusal.BufferTooShort)
     ∷ []
-
--- the buffers hold the opened table
-pub record Filled {A : Type 0} (grid : Grid) (source : List A) (p q : Parts A) : Type 0 where
-  pub state : view q ≡ opened (table_in grid source) (room_of p)
-  pub tops : TopsFit q
 
 -- the cell if it is in the shape, else nothing
 abbrev pub Read : {A : Type 0} → Table A → ℕ → ℕ → Option A → Type 0

@@ -1,9 +1,10 @@
 ghost use Rattle.std.specs.Prelude.{◌≡◌, ◌*◌, ◌≤◌, length, MatchResult};
 ghost use Rattle.layout.specs.Checks.{Checked};
-ghost use Rattle.journal.specs.View.{room_of};
-ghost use Rattle.sheet.specs.Opening.{Filled, opening_rules, room};
+ghost use Rattle.model.specs.Journal.{opened};
+ghost use Rattle.journal.specs.View.{room_of, view};
+ghost use Rattle.sheet.specs.Opening.{opening_rules, room, table_in};
 
-use journal::parts::{Parts, Tops};
+use journal::parts::Parts;
 use layout::refusal::Refusal;
 use layout::storage::{Layout, clone_owned};
 
@@ -38,19 +39,16 @@ pub(crate) fn ask_opening<L: Layout>(layout: &L, source: usize, sizes: Sizes) ->
 
 // Copies the table to the cells, with an empty journal.
 pub(crate) fn fill<L: Layout, T: Copy>(p: &mut Parts<'_, T>, layout: &L, source: &[T])
-    requires { ((L.grid layout.now).span ≤ length source.now) × ((L.grid layout.now).rows * (L.grid layout.now).columns ≤ length p.old.cells.now) }
-    ensures { Filled (L.grid layout.now) source.now p.old p.new }
+    requires { ((L.grid layout.now).span ≤ length source.now) × ((L.grid layout.now).rows * (L.grid layout.now).columns ≤ length p.old.table.cells.now) }
+    ensures { view p.new ≡ opened (table_in (L.grid layout.now) source.now) (room_of p.old) }
 {
     let (rows, columns) = layout.shape();
-    // There is room, so this is not refused.
-    let _ = clone_owned(layout, source, p.cells);
-    p.rows = rows;
-    p.columns = columns;
-    p.tops = Tops {
-        entries: 0,
-        runs: 0,
-        saved: 0,
-    };
+    // The questions were put, so this is not refused; a `?` would make a refusal of it.
+    let _ = clone_owned(layout, source, p.table.cells);
+    p.table.set_shape(rows, columns);
+    p.entries.clear();
+    p.runs.clear();
+    p.saved.clear();
 }
 
 // Opens a table over buffers that are in use already.
@@ -60,25 +58,15 @@ pub(crate) fn refill<L: Layout, T: Copy>(
     source: &[T],
 ) -> Result<(), Refusal>
     ensures which { Checked (opening_rules (L.grid layout.now) (length source.now) (room_of p.old)) result }
-    ensures state { MatchResult result (λ _. Filled (L.grid layout.now) source.now p.old p.new) (λ _. p.new ≡ p.old) }
+    ensures state { MatchResult result (λ _. view p.new ≡ opened (table_in (L.grid layout.now) source.now) (room_of p.old)) (λ _. p.new ≡ p.old) }
 {
-    let cells = p.cells.len();
-    let entries = p.entries.len();
-    let runs = p.runs.len();
-    let saved = p.saved.len();
-    let asked = ask_opening(
-        layout,
-        source.len(),
-        Sizes {
-            cells,
-            entries,
-            runs,
-            saved,
-        },
-    );
-    if asked.is_err() {
-        return asked;
-    }
+    let sizes = Sizes {
+        cells: p.table.cells.len(),
+        entries: p.entries.capacity(),
+        runs: p.runs.capacity(),
+        saved: p.saved.capacity(),
+    };
+    ask_opening(layout, source.len(), sizes)?;
     fill(p, layout, source);
     Ok(())
 }

@@ -1,5 +1,5 @@
 ghost use Rattle.model.specs.Reached.{Reachable};
-ghost use Rattle.journal.specs.View.{view, FewCells, TopsFit};
+ghost use Rattle.journal.specs.View.{view};
 
 use journal::parts::Parts;
 
@@ -10,7 +10,5 @@ pub mod methods;
 #[derive(Drop)]
 pub struct Sheet<'a, T> {
     parts: Parts<'a, T>,
-    ghost tops: { TopsFit parts },
     ghost reachable: { Reachable (view parts) },
-    ghost few: { FewCells parts },
 }

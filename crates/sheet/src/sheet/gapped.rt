@@ -1,4 +1,3 @@
-ghost use Rattle.journal.specs.View.{FewCells};
 ghost use Rattle.gaps.specs.Gaps.{Left};
 
 use journal::parts::Parts;
@@ -15,6 +14,5 @@ pub struct Gapped<'a, T> {
     at: u32,
     count: u32,
     answer: Result<(), Refusal>,
-    ghost few: { FewCells parts },
     ghost left: { ∥ Left parts side at count answer ∥₁ },
 }

@@ -1,15 +1,15 @@
-ghost use Rattle.std.specs.Prelude.{◌≡◌, map, reverse, length, MatchResult};
+ghost use Rattle.std.specs.Prelude.{◌≡◌, map, reverse, length, IfOk, MatchResult};
 ghost use Rattle.layout.specs.Checks.{Checked, Passes};
 ghost use Rattle.model.specs.Sheet.{row, column, insert_lines, remove_lines, remove_listed, resize_to, swap_lines};
 ghost use Rattle.model.specs.Journal.{change, opened};
-ghost use Rattle.journal.specs.View.{entry_of, room_of, run_of, view};
+ghost use Rattle.journal.specs.View.{entry_of, room_of, run_of, side_of, view};
 ghost use Rattle.journal.specs.Answering.{Answers};
 ghost use Rattle.sheet.specs.Opening.{Read, no_table, opening_rules, room, room_in, table_in};
 
 use super::super::opening;
 use super::super::opening::Sizes;
 use super::*;
-use journal::parts::{Entry, Parts, Run, Tops};
+use journal::parts::{Entry, Parts, Run};
 use layout::side::Side;
 use layout::refusal::Refusal;
 use layout::storage::Layout;
@@ -35,7 +35,25 @@ impl<'a, T: Copy> Sheet<'a, T> {
         opening::ask_opening(layout, source.len(), sizes)
     }
 
-    // The layout's table, copied to `cells`, with no entry; where the check refuses, 0 × 0 over empty buffers.
+    // The layout's table, copied to `cells`, with no entry; or the question that says no.
+    pub fn new<L: Layout>(
+        layout: &L,
+        source: &[T],
+        cells: &'a mut [T],
+        entries: &'a mut [Entry],
+        runs: &'a mut [Run],
+        saved: &'a mut [T],
+    ) -> Result<Sheet<'a, T>, Refusal>
+        ensures which { Checked (opening_rules (L.grid layout.now) (length source.now) (room_in cells.old entries.old runs.old saved.old)) result }
+        ensures made { IfOk result (λ s. view s.parts ≡ opened (table_in (L.grid layout.now) source.now) (room_in cells.old entries.old runs.old saved.old)) }
+    {
+        Sheet::check(layout, source, cells, entries, runs, saved)?;
+        let mut parts = Parts::new(cells, entries, runs, saved);
+        opening::fill(&mut parts, layout, source);
+        Ok(Sheet { parts })
+    }
+
+    // The same sheet; where the check refuses, 0 × 0 over empty buffers.
     pub fn open<L: Layout>(
         layout: &L,
         source: &[T],
@@ -47,52 +65,17 @@ impl<'a, T: Copy> Sheet<'a, T> {
         ensures made { Passes (opening_rules (L.grid layout.now) (length source.now) (room_in cells.old entries.old runs.old saved.old)) → view result.parts ≡ opened (table_in (L.grid layout.now) source.now) (room_in cells.old entries.old runs.old saved.old) }
         ensures refused { (Passes (opening_rules (L.grid layout.now) (length source.now) (room_in cells.old entries.old runs.old saved.old)) → ⊥) → view result.parts ≡ opened no_table (room 0 0 0 0) }
     {
-        if Sheet::check(layout, source, cells, entries, runs, saved).is_err() {
-            return Sheet::empty(cells, entries, runs, saved);
+        match Sheet::new(layout, source, cells, entries, runs, saved) {
+            Ok(sheet) => sheet,
+            Err(_) => Sheet::empty(),
         }
-        let mut parts = Parts {
-            cells,
-            entries,
-            runs,
-            saved,
-            rows: 0,
-            columns: 0,
-            tops: Tops {
-                entries: 0,
-                runs: 0,
-                saved: 0,
-            },
-        };
-        opening::fill(&mut parts, layout, source);
-        Sheet { parts }
     }
 
-    fn empty(
-        cells: &'a mut [T],
-        entries: &'a mut [Entry],
-        runs: &'a mut [Run],
-        saved: &'a mut [T],
-    ) -> Sheet<'a, T>
+    fn empty() -> Sheet<'a, T>
         ensures { view result.parts ≡ opened no_table (room 0 0 0 0) }
     {
-        let cells = &mut cells[0..0];
-        let entries = &mut entries[0..0];
-        let runs = &mut runs[0..0];
-        let saved = &mut saved[0..0];
         Sheet {
-            parts: Parts {
-                cells,
-                entries,
-                runs,
-                saved,
-                rows: 0,
-                columns: 0,
-                tops: Tops {
-                    entries: 0,
-                    runs: 0,
-                    saved: 0,
-                },
-            },
+            parts: Parts::new(&mut [], &mut [], &mut [], &mut []),
         }
     }
 
@@ -108,17 +91,16 @@ impl<'a, T: Copy> Sheet<'a, T> {
     pub fn shape(&self) -> (u32, u32)
         ensures { (result.0 ≡ (view self.now.parts).table.rows) × (result.1 ≡ (view self.now.parts).table.columns) }
     {
-        (self.parts.rows, self.parts.columns)
+        (self.parts.table.rows, self.parts.table.columns)
     }
 
     // The cell, if it is in the shape.
     pub fn get(&self, row: u32, column: u32) -> Option<T>
         ensures { Read (view self.now.parts).table row column result }
     {
-        if row < self.parts.rows && column < self.parts.columns {
-            let at = row as usize + column as usize * self.parts.rows as usize;
-            let cells: &[T] = self.parts.cells;
-            Some(cells[at])
+        let (rows, columns) = self.shape();
+        if row < rows && column < columns {
+            Some(self.cells()[row as usize + column as usize * rows as usize])
         } else {
             None
         }
@@ -128,97 +110,115 @@ impl<'a, T: Copy> Sheet<'a, T> {
     pub fn cells(&self) -> &[T]
         ensures { result.now ≡ (view self.now.parts).table.cells }
     {
-        let n = self.parts.rows as usize * self.parts.columns as usize;
-        &self.parts.cells[0..n]
+        self.parts.table.as_slice()
     }
 
     // The entries, the oldest first.
     pub fn entries(&self) -> &[Entry]
         ensures { map entry_of (reverse result.now) ≡ (view self.now.parts).entries }
     {
-        &self.parts.entries[0..self.parts.tops.entries]
+        self.parts.entries.as_slice()
     }
 
     // The runs of all entries, those of the oldest first.
     pub fn runs(&self) -> &[Run]
         ensures { map run_of result.now ≡ (view self.now.parts).runs }
     {
-        &self.parts.runs[0..self.parts.tops.runs]
+        self.parts.runs.as_slice()
     }
 
     // The saved cells of all entries, those of the oldest first.
     pub fn saved(&self) -> &[T]
         ensures { result.now ≡ (view self.now.parts).saved }
     {
-        &self.parts.saved[0..self.parts.tops.saved]
+        self.parts.saved.as_slice()
+    }
+
+    // Puts in n lines of v before line i.
+    pub fn insert_lines(&mut self, side: Side, i: u32, n: u32, v: T) -> Result<(), Refusal>
+        ensures { Answers self.old.parts self.new.parts (change (insert_lines (side_of side) i n v)) result }
+    {
+        lines::insert_lines(&mut self.parts, side, i, n, v)
     }
 
     // Puts in n rows of v before row i.
-    #[tactic(auto, using(crate::proofs::Keeping::still_few))]
     pub fn insert_rows(&mut self, i: u32, n: u32, v: T) -> Result<(), Refusal>
         ensures { Answers self.old.parts self.new.parts (change (insert_lines row i n v)) result }
     {
-        rows::insert_rows(&mut self.parts, i, n, v)
+        self.insert_lines(Side::Rows, i, n, v)
     }
 
     // Puts in n columns of v before column i.
-    #[tactic(auto, using(crate::proofs::Keeping::still_few))]
     pub fn insert_columns(&mut self, i: u32, n: u32, v: T) -> Result<(), Refusal>
         ensures { Answers self.old.parts self.new.parts (change (insert_lines column i n v)) result }
     {
-        columns::insert_columns(&mut self.parts, i, n, v)
+        self.insert_lines(Side::Columns, i, n, v)
+    }
+
+    // Takes out n lines at i.
+    pub fn remove_lines(&mut self, side: Side, i: u32, n: u32) -> Result<(), Refusal>
+        ensures { Answers self.old.parts self.new.parts (change (remove_lines (side_of side) i n)) result }
+    {
+        lines::remove_lines(&mut self.parts, side, i, n)
     }
 
     // Takes out n rows at i.
-    #[tactic(auto, using(crate::proofs::Keeping::still_few))]
     pub fn remove_rows(&mut self, i: u32, n: u32) -> Result<(), Refusal>
         ensures { Answers self.old.parts self.new.parts (change (remove_lines row i n)) result }
     {
-        rows::remove_rows(&mut self.parts, i, n)
+        self.remove_lines(Side::Rows, i, n)
     }
 
     // Takes out n columns at i.
-    #[tactic(auto, using(crate::proofs::Keeping::still_few))]
     pub fn remove_columns(&mut self, i: u32, n: u32) -> Result<(), Refusal>
         ensures { Answers self.old.parts self.new.parts (change (remove_lines column i n)) result }
     {
-        columns::remove_columns(&mut self.parts, i, n)
+        self.remove_lines(Side::Columns, i, n)
+    }
+
+    // Takes out each line that the list names, once; an index beyond the lines is passed over.
+    pub fn remove_lines_at(&mut self, side: Side, list: &[u32]) -> Result<(), Refusal>
+        ensures { Answers self.old.parts self.new.parts (change (remove_listed (side_of side) list.now)) result }
+    {
+        listings::remove_lines_at(&mut self.parts, side, list)
     }
 
     // Takes out each row that the list names, once; an index beyond the rows is passed over.
-    #[tactic(auto, using(crate::proofs::Keeping::still_few))]
     pub fn remove_rows_at(&mut self, list: &[u32]) -> Result<(), Refusal>
         ensures { Answers self.old.parts self.new.parts (change (remove_listed row list.now)) result }
     {
-        listings::remove_rows_at(&mut self.parts, list)
+        self.remove_lines_at(Side::Rows, list)
     }
 
     // Takes out each column that the list names, once; an index beyond the columns is passed over.
-    #[tactic(auto, using(crate::proofs::Keeping::still_few))]
     pub fn remove_columns_at(&mut self, list: &[u32]) -> Result<(), Refusal>
         ensures { Answers self.old.parts self.new.parts (change (remove_listed column list.now)) result }
     {
-        listings::remove_columns_at(&mut self.parts, list)
+        self.remove_lines_at(Side::Columns, list)
+    }
+
+    // Lines i and j change places.
+    pub fn swap_lines(&mut self, side: Side, i: u32, j: u32) -> Result<(), Refusal>
+        ensures { Answers self.old.parts self.new.parts (change (swap_lines (side_of side) i j)) result }
+    {
+        swaps::swap(&mut self.parts, side, i, j)
     }
 
     // Rows i and j change places.
-    #[tactic(auto, using(crate::proofs::Keeping::still_few))]
     pub fn swap_rows(&mut self, i: u32, j: u32) -> Result<(), Refusal>
         ensures { Answers self.old.parts self.new.parts (change (swap_lines row i j)) result }
     {
-        swaps::swap(&mut self.parts, Side::Rows, i, j)
+        self.swap_lines(Side::Rows, i, j)
     }
 
     // Columns i and j change places.
-    #[tactic(auto, using(crate::proofs::Keeping::still_few))]
     pub fn swap_columns(&mut self, i: u32, j: u32) -> Result<(), Refusal>
         ensures { Answers self.old.parts self.new.parts (change (swap_lines column i j)) result }
     {
-        swaps::swap(&mut self.parts, Side::Columns, i, j)
+        self.swap_lines(Side::Columns, i, j)
     }
 
     // Gives the sheet so many rows and columns: old cells in both shapes stay, others are v.
-    #[tactic(auto, using(crate::proofs::Keeping::still_few))]
     pub fn resize_mut(&mut self, rows: u32, columns: u32, v: T) -> Result<(), Refusal>
         ensures { Answers self.old.parts self.new.parts (change (resize_to rows columns v)) result }
     {

@@ -1,9 +1,0 @@
-use Rattle.sheet.proofs.Openings.{refilled_ghosts}
-use Rattle.sheet.proofs.sheet.Sheet.reopen.Goals as goal
-
-pub invariant_of-self : goal.invariant_of-self
-invariant_of-self g c =
-    let s = c.args.layout.now in
-    let f = refilled_ghosts (g.L.Layout.grid s) (g.L.Layout.lawful s) c.args.source.now c.args.self.now.parts c.refill.new.p c.refill.result
-    c.args.self.now.tops c.args.self.now.reachable c.args.self.now.few c.refill.ensures.which c.refill.ensures.state in
-    record { tops = f.0; reachable = f.1; few = f.2 }
