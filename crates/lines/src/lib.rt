@@ -1,13 +1,12 @@
 // Lines put into and taken out of a sheet, on its buffers: the questions, the moves, the entry.
 #![tactic(auto)]
 
-ghost use Rattle.std.specs.Prelude.{◌+◌, ◌-◌, ◌≤◌, [], length};
-ghost use Rattle.moves.specs.Blocks.{cells_in, columns_with, lines_in, rows_with};
+ghost use Rattle.std.specs.Prelude.{◌+◌, ◌≤◌};
 ghost use Rattle.model.specs.Sheet.{insert_lines, remove_lines};
-ghost use Rattle.model.specs.Journal.{change, one_run};
+ghost use Rattle.model.specs.Journal.{change};
 ghost use Rattle.journal.specs.View.{side_of};
-ghost use Rattle.journal.specs.Asking.{Fits};
-ghost use Rattle.journal.specs.Answering.{Answers, Held, Performed};
+ghost use Rattle.journal.specs.Answering.{Answers, Held};
+ghost use Rattle.lines.specs.Moving.{Inserted, InsertionFits, RemovalFits, Removed, lines_of};
 
 use journal::entering::{note_run, run_count};
 use journal::parts::{Note, Parts};
@@ -37,9 +36,9 @@ pub fn remove_lines<T: Copy>(
 }
 
 fn cut_lines<T: Copy>(p: &mut Parts<'_, T>, side: Side, i: u32, n: u32)
-    requires there { i + n ≤ lines_in side p.old.table.rows p.old.table.columns }
-    requires fits { Fits p.old (rows_with side (lines_in side p.old.table.rows p.old.table.columns - n) p.old.table.rows) (columns_with side (lines_in side p.old.table.rows p.old.table.columns - n) p.old.table.columns) (length (one_run i n)) (cells_in side n p.old.table.rows p.old.table.columns) }
-    ensures { Performed p.old p.new (remove_lines (side_of side) i n) (rows_with side (lines_in side p.old.table.rows p.old.table.columns - n) p.old.table.rows) (columns_with side (lines_in side p.old.table.rows p.old.table.columns - n) p.old.table.columns) (one_run i n) (cells_in side n p.old.table.rows p.old.table.columns) }
+    requires there { i + n ≤ lines_of p.old side }
+    requires fits { RemovalFits p.old side i n }
+    ensures { Removed p.old p.new side i n }
 {
     let lost = p.table.cells_in(side, n);
     let entry = p.entry(Note::Removal(side, i, n), run_count(i, n), lost);
@@ -71,9 +70,9 @@ pub fn insert_lines<T: Copy>(
 }
 
 fn put_lines<T: Copy>(p: &mut Parts<'_, T>, side: Side, i: u32, n: u32, v: T)
-    requires there { i ≤ lines_in side p.old.table.rows p.old.table.columns }
-    requires fits { Fits p.old (rows_with side (lines_in side p.old.table.rows p.old.table.columns + n) p.old.table.rows) (columns_with side (lines_in side p.old.table.rows p.old.table.columns + n) p.old.table.columns) 0 0 }
-    ensures { Performed p.old p.new (insert_lines (side_of side) i n v) (rows_with side (lines_in side p.old.table.rows p.old.table.columns + n) p.old.table.rows) (columns_with side (lines_in side p.old.table.rows p.old.table.columns + n) p.old.table.columns) [] 0 }
+    requires there { i ≤ lines_of p.old side }
+    requires fits { InsertionFits p.old side n }
+    ensures { Inserted p.old p.new side i n v }
 {
     let entry = p.entry(Note::Insertion(side, i, n), 0, 0);
     p.table.insert_lines(side, i, n, v);
