@@ -148,5 +148,6 @@ module _ (rows columns last i n : ℕ) (whole : columns ≡ last + 1) where
                 let k : ℕ = r - i in
                 t.above (r + n + q * (rows + n)) d (omega arith) ∙ at ys d (r + n + q * (rows + n)) (to + k) (omega arith) ∙ s.moved k d (omega arith) ∙ at xs d (from + k) (r + q * rows) (omega arith)
           ];
+          head = λ k d h. t.below k d h ∙ s.below k d (omega arith);
           rest = λ k d h. t.above k d (omega arith) ∙ s.above k d (omega arith);
         }

@@ -16,11 +16,13 @@ pub record Opened {X : Type 0} (xs ys : List X) (b : Block) : Type 0 where
   pub below : (k : ℕ) (d : X) → k < b.first + b.count → slice_index_or ys k d ≡ slice_index_or xs k d
   pub above : (k : ℕ) (d : X) → b.first + b.columns * (b.rows + b.count) ≤ k → slice_index_or ys k d ≡ slice_index_or xs k d
 
--- ys holds the table of xs with the block's rows more, of which nothing is said
+-- ys holds the table of xs with the block's rows more; of what stands in those only that nothing before the end of the
+-- first gap is altered
 pub record Extended {X : Type 0} (xs ys : List X) (b : Block) : Type 0 where
   pub long : length ys ≡ length xs
   pub upper : (r c : ℕ) (d : X) → r < b.first → c < b.columns → slice_index_or ys (r + c * (b.rows + b.count)) d ≡ slice_index_or xs (r + c * b.rows) d
   pub lower : (r c : ℕ) (d : X) → b.first ≤ r → r < b.rows → c < b.columns → slice_index_or ys (r + b.count + c * (b.rows + b.count)) d ≡ slice_index_or xs (r + c * b.rows) d
+  pub head : (k : ℕ) (d : X) → k < b.first + b.count → slice_index_or ys k d ≡ slice_index_or xs k d
   pub rest : (k : ℕ) (d : X) → b.columns * (b.rows + b.count) ≤ k → slice_index_or ys k d ≡ slice_index_or xs k d
 
 -- ys is xs and behind it the block's rows of src's table, column by column, rows rising
