@@ -1,26 +1,15 @@
 -- Another shape, from places of the buffer to the model's tables.
-use Rattle.std.proofs.Common.{◌≡◌, ℕ, ◌+◌, ◌-◌, ◌*◌, ◌≤◌, min, List, [], ◌++◌, length, get_or, take, drop, sym, ap, ◌∙◌, subst, ap₂, inl, inr, mul_comm, add-mul, arith}
+use Rattle.std.proofs.Common.{◌≡◌, ℕ, ◌+◌, ◌-◌, ◌*◌, ◌≤◌, min, List, ◌++◌, length, get_or, take, drop, sym, ap, ◌∙◌, ap₂, inl, inr, mul_comm, add-mul, arith}
 use Rattle.std.proofs.lemmas.List.{get_or-drop, length-drop}
 use Rattle.std.proofs.lemmas.Nat.{mul-add-lt}
 use Rattle.std.proofs.lemmas.Bool.{cases_lt}
 use Rattle.model.specs.Sheet.{new, Change, resize_to, Table, cell_at, cell_of, columns_of, changed}
 use Rattle.model.specs.Journal.{Right, lost_of}
-use Rattle.model.proofs.Counting.{Counts}
 use Rattle.model.proofs.Grids.{take_then}
-use Rattle.model.proofs.Joins.{table_cells, changed_cells, old_cell, the_cell, cell_of_lem, same_cell, lying, put_behind}
-use Rattle.model.proofs.Reaching.{bounds}
+use Rattle.model.proofs.Joins.{table_cells, changed_cells, old_cell, the_cell, cell_of_lem, same_cell, lying, put_on}
 use Rattle.model.proofs.Regions.{region, region_right, region_at}
 use Rattle.model.proofs.Resized.{outside, resize_old, resize_new, resized, resized_lost}
-use Rattle.journal.specs.declared.parts.Parts.{Parts}
-use Rattle.journal.specs.View.{table_of, view}
-use Rattle.journal.specs.Answering.{Held}
-use Rattle.resizing.specs.Resizing.{OutsideSaved, Resized, count_of_lost}
-
--- what the questions ask, with the lost cells as they were counted
-pub counted : {A : Type 0} (p : Parts A) (m n : ℕ) (v : A) (l : ℕ) → Held p → l ≡ count_of_lost p.rows p.columns m n
-    → Counts (table_of p) (resize_to m n v) m n [] l
-counted p m n v l h e =
-    subst (Counts (table_of p) (resize_to m n v) m n []) (sym e) (resized (table_of p) m n v (bounds (view p) h.reachable).right)
+use Rattle.resizing.specs.Resizing.{OutsideSaved, Resized}
 
 module _ {A : Type 0} (t : Table A) (right : Right t) (xs : List A) (lies : t.cells ≡ take (t.rows * t.columns) xs) where
   -- the table in its new shape
@@ -49,15 +38,17 @@ module _ {A : Type 0} (t : Table A) (right : Right t) (xs : List A) (lies : t.ce
       ])
 
   -- the cells outside the corner of a rows and b columns
-  module _ (a b : ℕ) (rows : a ≤ t.rows) (columns : b ≤ t.columns) (was is : List A) (top : ℕ)
-      (room : top + (t.rows * t.columns - a * b) ≤ length was) (h : OutsideSaved xs was is t.rows t.columns a b top) where
+  module _ (a b : ℕ) (rows : a ≤ t.rows) (columns : b ≤ t.columns) (was is : List A) (h : OutsideSaved xs was is t.rows t.columns a b) where
+    abbrev top : ℕ
+    top = length was
+
     lower_part : take ((t.rows - a) * b) (drop top is) ≡ (region t a (t.rows - a) 0 b).cells
     lower_part =
         let R = t.rows in
         let C = t.columns in
         let whole = lying t xs right lies in
         let parts = outside R C a b rows columns in
-        let long : length is ≡ length was = h.long in
+        let long : length is ≡ top + (R * C - a * b) = h.long in
         let ld = length-drop top is in
         table_cells (region t a (R - a) 0 b) (drop top is) (region_right t right a (R - a) 0 b (omega arith) (omega arith)) (omega arith) (λ r c x y.
         let below = mul-add-lt c (R - a) r b y x in
@@ -75,7 +66,7 @@ module _ {A : Type 0} (t : Table A) (right : Right t) (xs : List A) (lies : t.ce
         let w = (R - a) * b in
         let whole = lying t xs right lies in
         let parts = outside R C a b rows columns in
-        let long : length is ≡ length was = h.long in
+        let long : length is ≡ top + (R * C - a * b) = h.long in
         let ld = length-drop top is in
         let le = length-drop w (drop top is) in
         table_cells (region t 0 R b (C - b)) (drop w (drop top is)) (region_right t right 0 R b (C - b) (omega arith) (omega arith)) (omega arith) (λ r c x y.
@@ -91,25 +82,17 @@ module _ {A : Type 0} (t : Table A) (right : Right t) (xs : List A) (lies : t.ce
         ∙ ap (λ z. cell_at t z (b + c)) (let z : r ≡ 0 + r = omega arith in z)
         ∙ sym (region_at t right 0 R b (C - b) (omega arith) (omega arith) r c x y))
 
-    outside_cells : take (top + (t.rows * t.columns - a * b)) is
-        ≡ take top was ++ ((region t a (t.rows - a) 0 b).cells ++ (region t 0 t.rows b (t.columns - b)).cells)
+    pub outside_cells : is ≡ was ++ ((region t a (t.rows - a) 0 b).cells ++ (region t 0 t.rows b (t.columns - b)).cells)
     outside_cells =
         let R = t.rows in
         let C = t.columns in
-        put_behind was is top (R * C - a * b) _ h.long room h.first
+        put_on was is (R * C - a * b) _ h.long h.first
         (ap (λ k. take k (drop top is)) (sym (outside R C a b rows columns))
         ∙ sym (take_then ((R - a) * b) (R * (C - b)) (drop top is)) ∙ ap₂ ◌++◌ lower_part behind_part)
 
-  -- the cells that the new shape has no place for, where a rows and b columns stay
-  pub saved_cells : (m n : ℕ) (v : A) (a b l : ℕ) → a ≡ min t.rows m → b ≡ min t.columns n → l ≡ count_of_lost t.rows t.columns m n
-      → (was is : List A) (top : ℕ) → top + count_of_lost t.rows t.columns m n ≤ length was
-      → OutsideSaved xs was is t.rows t.columns a b top
-      → take (top + l) is ≡ take top was ++ lost_of t (resize_to m n v)
-  saved_cells m n v a b l ea eb el was is top room h =
-      let R = t.rows in
-      let C = t.columns in
-      let e : count_of_lost R C m n ≡ R * C - a * b = sym (ap₂ (λ x y. R * C - x * y) ea eb) in
-      ap (λ k. take (top + k) is) (el ∙ e)
-      ∙ outside_cells a b (omega arith) (omega arith) was is top (omega arith) h
-      ∙ ap (λ lost. take top was ++ lost)
-      (ap₂ (λ x y. (region t x (R - x) 0 y).cells ++ (region t 0 R y (C - y)).cells) ea eb ∙ sym (resized_lost t m n v))
+  -- the cells that the new shape has no place for
+  pub saved_cells : (m n : ℕ) (v : A) (was is : List A) → OutsideSaved xs was is t.rows t.columns (min t.rows m) (min t.columns n)
+      → is ≡ was ++ lost_of t (resize_to m n v)
+  saved_cells m n v was is h =
+      outside_cells (min t.rows m) (min t.columns n) (omega arith) (omega arith) was is h
+      ∙ ap (λ lost. was ++ lost) (sym (resized_lost t m n v))

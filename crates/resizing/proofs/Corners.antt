@@ -1,14 +1,17 @@
 -- Places of a table before and after it gets another shape.
-use Rattle.std.proofs.Common.{◌≡◌, ℕ, ◌+◌, ◌-◌, ◌*◌, ◌<◌, ◌≤◌, min, List, get_or, sym, ap, ◌∙◌, ap₂, inl, inr, mul_comm, arith}
+use Rattle.std.proofs.Common.{◌≡◌, ℕ, ◌+◌, ◌-◌, ◌*◌, ◌<◌, ◌≤◌, min, List, length, get_or, sym, ap, ◌∙◌, ap₂, inl, inr, mul_comm, one-mul, arith}
 use Rattle.std.proofs.lemmas.Bool.{cases_lt}
-use Rattle.moves.specs.Slides.{Filled, Copied}
+use Rattle.layout.specs.declared.side.Side.TheVariants.{Columns}
+use Rattle.moves.specs.Blocks.{block_of, rows_block}
+use Rattle.moves.specs.Slides.{Filled}
 use Rattle.moves.specs.Tables.{Inserted, Saved}
-use Rattle.moves.proofs.Places.{columns_lt, columns_wider, columns_split}
+use Rattle.moves.proofs.Flat.{saved_flat}
+use Rattle.moves.proofs.Places.{columns_lt, columns_split}
 use Rattle.model.proofs.Resized.{outside}
 use Rattle.resizing.specs.Resizing.{RowsResized, Resized, OutsideSaved}
 
 -- rows put in behind the last one
-pub grown : {X : Type 0} (xs ys : List X) (R C m : ℕ) (v : X) → R < m → Inserted xs ys R C R (m - R) v → RowsResized xs ys R C m v
+pub grown : {X : Type 0} (xs ys : List X) (R C m : ℕ) (v : X) → R < m → Inserted xs ys (rows_block R C R (m - R)) v → RowsResized xs ys R C m v
 grown xs ys R C m v more h =
     let e : R + (m - R) ≡ m = omega arith in
     record {
@@ -22,15 +25,6 @@ grown xs ys R C m v more h =
 
 -- b columns stay, and each then has m rows; with the new ones they are n columns
 module _ (R C m n b : ℕ) (stays : b ≡ min C n) where
-  pub stay_old : R * b ≤ R * C
-  stay_old = columns_wider R b C (omega arith)
-
-  pub stay_new : m * b ≤ m * n
-  stay_new = columns_wider m b n (omega arith)
-
-  pub new_behind : b * m + (n - b) * m ≡ m * n
-  new_behind = columns_split b n m (omega arith) ∙ mul_comm n m
-
   pub widened : {X : Type 0} (xs zs ys : List X) (v : X) → RowsResized xs zs R b m v → Filled zs ys (b * m) ((n - b) * m) v → Resized xs ys R C m n v
   widened {X} xs zs ys v h f = record {
     long = f.long ∙ h.long;
@@ -54,20 +48,20 @@ module _ (R C m n b : ℕ) (stays : b ≡ min C n) where
 
 -- the cells below a corner of a rows and b columns, and then those behind it
 module _ (R C a b : ℕ) (rows : a ≤ R) (columns : b ≤ C) where
-  pub both_parts : (R - a) * b + R * (C - b) ≡ R * C - a * b
-  both_parts = outside R C a b rows columns
-
-  pub outside_saved : {X : Type 0} (src xs zs ys : List X) (top : ℕ)
-      → Saved src xs zs R b a (R - a) top → Copied src zs ys (b * R) (top + (R - a) * b) ((C - b) * R) → OutsideSaved src xs ys R C a b top
-  outside_saved src xs zs ys top h f =
-      let parts = both_parts in
+  pub outside_saved : {X : Type 0} (src xs zs ys : List X)
+      → Saved src xs zs (rows_block R b a (R - a)) → Saved src zs ys (block_of Columns R C b (C - b)) → OutsideSaved src xs ys R C a b
+  outside_saved src xs zs ys h f =
+      let parts = outside R C a b rows columns in
       let turned = mul_comm b (R - a) in
       let across = mul_comm R (C - b) in
+      let first : length zs ≡ length xs + b * (R - a) = h.long in
+      let both : length ys ≡ length zs + (C - b) * R = omega (arith, f.long, one-mul ((C - b) * R)) in
       record {
-        long = f.long ∙ h.long;
+        long = omega arith;
         first = λ k d l. f.below k d (omega arith) ∙ h.below k d l;
         lower = λ r c d l k.
-            f.below (top + (r + c * (R - a))) d (omega (arith, columns_lt c b (R - a) k)) ∙ h.saved r c d l k;
-        behind = λ k d l. f.moved k d l;
-        last = λ k d l. f.above k d (omega arith) ∙ h.above k d (omega arith);
+            f.below (length xs + (r + c * (R - a))) d (omega (arith, columns_lt c b (R - a) k)) ∙ h.saved r c d l k;
+        behind = λ k d l.
+            ap (λ z. get_or ys z d) (let e : length xs + (R - a) * b + k ≡ length zs + k = omega arith in e)
+            ∙ saved_flat zs ys R C b (C - b) src f k d l;
       }

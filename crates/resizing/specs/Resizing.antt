@@ -2,14 +2,13 @@
 -- the cell of row r and column c is at r + c * R before and at r + c * m after.
 use Rattle.std.specs.Prelude.{◌≡◌, ℕ, ◌+◌, ◌-◌, ◌*◌, ◌<◌, ◌≤◌, min, List, length, slice_index_or}
 
--- ys is xs with the cells of src's table outside its corner of a rows and b columns in it from `top` on: those below
--- the corner, then those behind it
-pub record OutsideSaved {X : Type 0} (src xs ys : List X) (R C a b top : ℕ) : Type 0 where
-  pub long : length ys ≡ length xs
-  pub first : (k : ℕ) (d : X) → k < top → slice_index_or ys k d ≡ slice_index_or xs k d
-  pub lower : (r c : ℕ) (d : X) → r < R - a → c < b → slice_index_or ys (top + (r + c * (R - a))) d ≡ slice_index_or src (a + r + c * R) d
-  pub behind : (k : ℕ) (d : X) → k < (C - b) * R → slice_index_or ys (top + (R - a) * b + k) d ≡ slice_index_or src (b * R + k) d
-  pub last : (k : ℕ) (d : X) → top + (R * C - a * b) ≤ k → slice_index_or ys k d ≡ slice_index_or xs k d
+-- ys is xs and behind it the cells of src's table outside its corner of a rows and b columns: those below the corner,
+-- then those behind it
+pub record OutsideSaved {X : Type 0} (src xs ys : List X) (R C a b : ℕ) : Type 0 where
+  pub long : length ys ≡ length xs + (R * C - a * b)
+  pub first : (k : ℕ) (d : X) → k < length xs → slice_index_or ys k d ≡ slice_index_or xs k d
+  pub lower : (r c : ℕ) (d : X) → r < R - a → c < b → slice_index_or ys (length xs + (r + c * (R - a))) d ≡ slice_index_or src (a + r + c * R) d
+  pub behind : (k : ℕ) (d : X) → k < (C - b) * R → slice_index_or ys (length xs + (R - a) * b + k) d ≡ slice_index_or src (b * R + k) d
 
 -- how many cells of a table of R rows and C columns one of m rows and n columns has no place for
 abbrev pub count_of_lost : ℕ → ℕ → ℕ → ℕ → ℕ

@@ -1,5 +1,5 @@
 -- A resize taken back, from places of the buffer to the model's tables.
-use Rattle.std.proofs.Common.{◌≡◌, ℕ, ◌+◌, ◌-◌, ◌*◌, ◌<◌, ◌≤◌, min, true, List, length, get_or, take, sym, refl, ap, ◌∙◌, ap₂, inl, inr, arith, length-append}
+use Rattle.std.proofs.Common.{◌≡◌, ℕ, ◌+◌, ◌-◌, ◌*◌, ◌<◌, ◌≤◌, min, true, List, ◌++◌, length, get_or, take, sym, refl, ap, ◌∙◌, ap₂, inl, inr, arith}
 use Rattle.std.proofs.lemmas.List.{get_or_append_left, get_or-append-add}
 use Rattle.std.proofs.lemmas.Nat.{mul-add-lt}
 use Rattle.std.proofs.lemmas.Bool.{cases_lt}
@@ -27,11 +27,10 @@ was_resized (swap_lines s i j) h = absurd (let z : ◌≡◌ {A = ℕ} 0 1 = cc 
 was_resized (fill_lines s i n vs v) h = absurd (let z : ◌≡◌ {A = ℕ} 0 1 = cc in omega arith)
 was_resized (resize_to m n v) h = record { rows = m; columns = n; value = v; is = refl }
 
--- the table before the resize, where the resized one lies in xs and src has what it lost from `top` on
-module _ {A : Type 0} (t : Table A) (right : Right t) (m n : ℕ) (v : A) (src xs ys : List A) (top : ℕ)
+-- the table before the resize, where the resized one lies in xs and src is what it lost
+module _ {A : Type 0} (t : Table A) (right : Right t) (m n : ℕ) (v : A) (src xs ys : List A)
     (lies : take (m * n) xs ≡ (changed t (resize_to m n v)).cells) (now : m * n ≤ length xs) (room : t.rows * t.columns ≤ length xs)
-    (lost : (k : ℕ) (d : A) → k < length (lost_of t (resize_to m n v)) → get_or src (top + k) d ≡ get_or (lost_of t (resize_to m n v)) k d)
-    (h : ShapeBack src xs ys m n t.rows t.columns top) where
+    (lost : src ≡ lost_of t (resize_to m n v)) (h : ShapeBack src xs ys m n t.rows t.columns) where
   -- what lies below the corner of a rows and b columns that is in both shapes, and what lies behind it
   abbrev a : ℕ
   a = min t.rows m
@@ -53,20 +52,14 @@ module _ {A : Type 0} (t : Table A) (right : Right t) (m n : ℕ) (v : A) (src x
   behind_long : length behind.cells ≡ t.rows * (t.columns - b)
   behind_long = region_right t right 0 t.rows b (t.columns - b) (omega arith) (omega arith)
 
-  lost_long : length (lost_of t (resize_to m n v)) ≡ length lower.cells + length behind.cells
-  lost_long = ap length (resized_lost t m n v) ∙ length-append lower.cells behind.cells
+  parts : src ≡ lower.cells ++ behind.cells
+  parts = lost ∙ resized_lost t m n v
 
-  lower_at : (k : ℕ) (d : A) → k < length lower.cells → get_or src (top + k) d ≡ get_or lower.cells k d
-  lower_at k d l =
-      let e = lost_long in
-      lost k d (omega arith) ∙ ap (λ zs. get_or zs k d) (resized_lost t m n v) ∙ get_or_append_left lower.cells behind.cells d k l
+  lower_at : (k : ℕ) (d : A) → k < length lower.cells → get_or src k d ≡ get_or lower.cells k d
+  lower_at k d l = ap (λ zs. get_or zs k d) parts ∙ get_or_append_left lower.cells behind.cells d k l
 
-  behind_at : (k : ℕ) (d : A) → k < length behind.cells → get_or src (top + (length lower.cells + k)) d ≡ get_or behind.cells k d
-  behind_at k d l =
-      let e = lost_long in
-      lost (length lower.cells + k) d (omega arith)
-      ∙ ap (λ zs. get_or zs (length lower.cells + k) d) (resized_lost t m n v)
-      ∙ get_or-append-add lower.cells behind.cells k d
+  behind_at : (k : ℕ) (d : A) → k < length behind.cells → get_or src (length lower.cells + k) d ≡ get_or behind.cells k d
+  behind_at k d l = ap (λ zs. get_or zs (length lower.cells + k) d) parts ∙ get_or-append-add lower.cells behind.cells k d
 
   pub cells_back : take (t.rows * t.columns) ys ≡ t.cells
   cells_back =
@@ -92,7 +85,7 @@ module _ {A : Type 0} (t : Table A) (right : Right t) (m n : ℕ) (v : A) (src x
               let inside = mul-add-lt c (R - a) j b (omega arith) (omega arith) in
               same_cell ys lower.cells (r + c * R) (j + c * (R - a)) (omega arith) (omega arith)
               (λ d. ap (λ z. get_or ys (z + c * R) d) (sym e) ∙ h.lower j c d (omega arith) l y
-              ∙ ap (λ z. get_or src (top + (j + c * z)) d) (sym s) ∙ lower_at (j + c * (R - a)) d (omega arith))
+              ∙ ap (λ z. get_or src (j + c * z) d) (sym s) ∙ lower_at (j + c * (R - a)) d (omega arith))
               ∙ region_at t right a (R - a) 0 b (omega arith) (omega arith) j c (omega arith) (omega arith)
               ∙ ap₂ (cell_at t) (let z : a + j ≡ r = omega arith in z) (let z : 0 + c ≡ c = omega arith in z)
         ]
@@ -104,7 +97,7 @@ module _ {A : Type 0} (t : Table A) (right : Right t) (m n : ℕ) (v : A) (src x
             let inside = mul-add-lt j R r (C - b) (omega arith) x in
             same_cell ys behind.cells (r + c * R) (r + j * R) (omega arith) (omega arith)
             (λ d. ap (λ z. get_or ys (r + z * R) d) (sym e) ∙ h.behind r j d x (omega arith)
-            ∙ ap (λ z. get_or src z d) (let z : top + (R - m) * b + (r + j * R) ≡ top + (length lower.cells + (r + j * R)) = omega arith in z)
+            ∙ ap (λ z. get_or src z d) (let z : (R - m) * b + (r + j * R) ≡ length lower.cells + (r + j * R) = omega arith in z)
             ∙ behind_at (r + j * R) d (omega arith))
             ∙ region_at t right 0 R b (C - b) (omega arith) (omega arith) r j x (omega arith)
             ∙ ap₂ (cell_at t) (let z : 0 + r ≡ r = omega arith in z) (let z : b + j ≡ c = omega arith in z)

@@ -1,14 +1,15 @@
 -- Places of a table before and after it gets its former shape back.
 use Rattle.std.proofs.Common.{◌≡◌, ℕ, ◌+◌, ◌-◌, ◌*◌, ◌<◌, ◌≤◌, min, List, get_or, sym, ap, ◌∙◌, ap₂, mul_comm, arith}
+use Rattle.moves.specs.Blocks.{rows_block}
 use Rattle.moves.specs.Slides.{Copied}
 use Rattle.moves.specs.Tables.{Compressed, Restored}
-use Rattle.moves.proofs.Places.{columns_lt, columns_wider, columns_split, columns_sum, columns_same}
+use Rattle.moves.proofs.Places.{columns_lt, columns_split, columns_sum, columns_same}
 use Rattle.model.proofs.Resized.{outside}
 use Rattle.undo_resize.specs.Back.{RowsBack, ShapeBack}
 
-module _ {X : Type 0} (src xs ys : List X) (m R C top : ℕ) where
+module _ {X : Type 0} (src xs ys : List X) (m R C : ℕ) where
   -- rows put back behind the last one
-  pub grown : m < R → Restored src xs ys m C m (R - m) top → RowsBack src xs ys m R C top
+  pub grown : m < R → Restored src xs ys (rows_block m C m (R - m)) → RowsBack src xs ys m R C
   grown more h =
       let e : m + (R - m) ≡ R = omega arith in
       record {
@@ -19,7 +20,7 @@ module _ {X : Type 0} (src xs ys : List X) (m R C top : ℕ) where
       }
 
   -- the last rows taken out
-  pub cut : R ≤ m → Compressed xs ys m C R (m - R) → RowsBack src xs ys m R C top
+  pub cut : R ≤ m → Compressed xs ys (rows_block m C R (m - R)) → RowsBack src xs ys m R C
   cut less h =
       let e : m - (m - R) ≡ R = omega arith in
       record {
@@ -31,15 +32,6 @@ module _ {X : Type 0} (src xs ys : List X) (m R C top : ℕ) where
 
 -- b columns are in both shapes
 module _ (m n R C b : ℕ) (both : b ≡ min C n) where
-  pub both_now : m * b ≤ m * n
-  both_now = columns_wider m b n (omega arith)
-
-  pub both_before : R * b ≤ R * C
-  both_before = columns_wider R b C (omega arith)
-
-  pub behind_before : b * R + (C - b) * R ≡ R * C
-  behind_before = columns_split b C R (omega arith) ∙ mul_comm C R
-
   -- the cells below the corner, and then those behind it
   pub both_parts : (R - m) * b + (C - b) * R ≡ R * C - min R m * min C n
   both_parts =
@@ -50,9 +42,9 @@ module _ (m n R C b : ℕ) (both : b ≡ min C n) where
       let h = mul_comm R (C - b) in
       omega arith
 
-  pub widened : {X : Type 0} (src xs zs ys : List X) (l top : ℕ) → l ≡ R - m → RowsBack src xs zs m R b top
-      → Copied src zs ys (top + l * b) (b * R) ((C - b) * R) → ShapeBack src xs ys m n R C top
-  widened src xs zs ys l top low h f = record {
+  pub widened : {X : Type 0} (src xs zs ys : List X) (l : ℕ) → l ≡ R - m → RowsBack src xs zs m R b
+      → Copied src zs ys (l * b) (b * R) ((C - b) * R) → ShapeBack src xs ys m n R C
+  widened src xs zs ys l low h f = record {
     long = f.long ∙ h.long;
     stay = λ r c d hm hR hn hC.
         f.below (r + c * R) d (omega (arith, columns_lt c b R (omega arith))) ∙ h.stay r c d hm hR (omega arith);
@@ -64,7 +56,7 @@ module _ (m n R C b : ℕ) (both : b ≡ min C n) where
         let inside = columns_lt c (C - b) R (omega arith) in
         ap (λ z. get_or ys z d) (let z : r + (n + c) * R ≡ b * R + (r + c * R) = omega arith in z)
         ∙ f.moved (r + c * R) d (omega arith)
-        ∙ ap₂ (λ x z. get_or src (top + x * z + (r + c * R)) d) low both;
+        ∙ ap₂ (λ x z. get_or src (x * z + (r + c * R)) d) low both;
     rest = λ k d a.
         let all = columns_split b C R (omega arith) in
         f.above k d (omega arith) ∙ h.rest k d (omega arith);

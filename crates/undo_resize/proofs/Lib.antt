@@ -1,4 +1,3 @@
 pub mod Corners
-pub mod Own
 pub mod Cells
 pub mod Taking

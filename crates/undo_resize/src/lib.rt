@@ -10,7 +10,7 @@ ghost use Rattle.leaving.specs.Leaving.{Newest};
 ghost use Rattle.undo_resize.specs.Noted.{OfResize};
 
 use crate::shapes::bring_back_shape;
-use journal::parts::{Entry, Parts, take_out};
+use journal::parts::{Entry, Parts};
 use leaving::leave;
 
 // Takes back the resize of the newest entry: the sheet has its former shape, and each cell that went is back.
@@ -20,27 +20,7 @@ pub fn undo_resize<T: Copy>(p: &mut Parts<'_, T>, entry: Entry)
     requires noted { OfResize entry }
     ensures { Answers p.old p.new undo (Ok tt) }
 {
-    let Parts {
-        cells,
-        entries,
-        runs,
-        saved,
-        rows,
-        columns,
-        tops,
-    } = take_out(p);
-    let top = tops.saved - entry.cells;
-    let (high, wide) = (rows as usize, columns as usize);
-    let (height, width) = (entry.rows as usize, entry.columns as usize);
-    bring_back_shape(saved, top, cells, high, wide, height, width);
-    *p = Parts {
-        cells,
-        entries,
-        runs,
-        saved,
-        rows,
-        columns,
-        tops,
-    };
+    let own = p.saved.newest(entry.cells);
+    bring_back_shape(own, &mut p.table, entry.rows, entry.columns);
     leave(p, entry);
 }

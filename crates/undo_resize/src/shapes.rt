@@ -1,52 +1,47 @@
-// A table that lies column by column at the start of a buffer, given its former shape: the cells that it has no
-// place for now come back from another buffer.
-ghost use Rattle.std.specs.Prelude.{◌+◌, ◌-◌, ◌*◌, ◌≤◌, min, length};
+// A table given its former shape: the cells that it has no place for now come back from another buffer.
+ghost use Rattle.std.specs.Prelude.{◌≡◌, ◌-◌, ◌*◌, ◌≤◌, min, length};
 ghost use Rattle.undo_resize.specs.Back.{RowsBack, ShapeBack};
 
 use moves::blocks::copy_block;
 use moves::edition::{compress_rows, restore_rows};
+use moves::vec_storage::{Block, Table};
 
 // Gives each of the columns, of m rows now, its former rows.
-fn bring_back_rows<T: Copy>(
-    saved: &[T],
-    top: usize,
-    cells: &mut [T],
-    m: usize,
-    rows: usize,
-    columns: usize,
-)
-    requires { (m * columns ≤ length cells.old) × (rows * columns ≤ length cells.old) × (top + (rows - m) * columns ≤ length saved.now) }
-    ensures { RowsBack saved.now cells.old cells.new m rows columns top }
+fn bring_back_rows<T: Copy>(saved: &[T], cells: &mut [T], m: usize, rows: usize, columns: usize)
+    requires { (m * columns ≤ length cells.old) × (rows * columns ≤ length cells.old) × ((rows - m) * columns ≤ length saved.now) }
+    ensures { RowsBack saved.now cells.old cells.new m rows columns }
 {
     if m < rows {
-        restore_rows(saved, top, cells, m, columns, m, rows - m);
+        let gone = Block {
+            rows: m,
+            columns,
+            first: m,
+            count: rows - m,
+        };
+        restore_rows(saved, cells, gone);
     } else {
-        compress_rows(cells, m, columns, rows, m - rows);
+        let more = Block {
+            rows: m,
+            columns,
+            first: rows,
+            count: m - rows,
+        };
+        compress_rows(cells, more);
     }
 }
 
-// Gives the table, of m rows and n columns now, its former shape.
-pub fn bring_back_shape<T: Copy>(
-    saved: &[T],
-    top: usize,
-    cells: &mut [T],
-    m: usize,
-    n: usize,
-    rows: usize,
-    columns: usize,
-)
-    requires table { (m * n ≤ length cells.old) × (rows * columns ≤ length cells.old) }
-    requires room { top + (rows * columns - min rows m * min columns n) ≤ length saved.now }
-    ensures { ShapeBack saved.now cells.old cells.new m n rows columns top }
+// Moves the cells to where they lie in the former shape, and brings those back that went. The shape is left to the
+// caller.
+pub fn bring_back_shape<T: Copy>(saved: &[T], table: &mut Table<'_, T>, rows: u32, columns: u32)
+    requires fits { rows * columns ≤ length table.old.cells.now }
+    requires there { rows * columns - min rows table.old.rows * min columns table.old.columns ≤ length saved.now }
+    ensures cells { ShapeBack saved.now table.old.cells.now table.new.cells.now table.old.rows table.old.columns rows columns }
+    ensures shape { (table.new.rows ≡ table.old.rows) × (table.new.columns ≡ table.old.columns) }
 {
-    let both = columns.min(n);
-    bring_back_rows(saved, top, cells, m, rows, both);
-    let lower = rows.saturating_sub(m) * both;
-    copy_block(
-        saved,
-        top + lower,
-        cells,
-        both * rows,
-        (columns - both) * rows,
-    );
+    let both = columns.min(table.columns) as usize;
+    let (m, high) = (table.rows as usize, rows as usize);
+    bring_back_rows(saved, table.cells, m, high, both);
+    let lower = high.saturating_sub(m) * both;
+    let behind = (columns as usize - both) * high;
+    copy_block(saved, lower, table.cells, both * high, behind);
 }

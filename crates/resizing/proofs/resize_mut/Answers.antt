@@ -1,36 +1,22 @@
-use Rattle.std.proofs.Common.{[], sym, refl, subst}
-use Rattle.model.specs.Sheet.{resize_to}
-use Rattle.model.proofs.Reaching.{bounds}
-use Rattle.journal.specs.View.{view}
-use Rattle.journal.specs.Asking.{Fits}
-use Rattle.journal.specs.Answering.{Performed}
-use Rattle.journal.proofs.Answering.{stopped, room, accepts}
-use Rattle.resizing.proofs.Cells.{counted}
+use Rattle.std.proofs.Common.{refl}
+use Rattle.std.proofs.lemmas.Result.{err_from_is_err_and}
+use Rattle.model.proofs.Resized.{resized}
+use Rattle.journal.specs.View.{table_of}
+use Rattle.journal.proofs.Asking.{asked_as}
+use Rattle.journal.proofs.Answering.{full, accepted, right}
 use Rattle.resizing.proofs.resize_mut.Goals as goal
 
-pub returns-then-is_err : goal.returns-then-is_err
-returns-then-is_err g c =
+pub returns-in_err-ask : goal.returns-in_err-ask
+returns-in_err-ask g c =
     let p = c.args.p.now in
-    let counts = counted p c.args.rows c.args.columns c.args.v _ c.requires c.lost_count-lost.ensures in
-    stopped p _ _ _ _ _ _ counts refl c.ask-asked.result c.requires c.ask-asked.ensures.which c.if-is_err.ensures.value
-
-pub reshape-requires : goal.reshape-requires
-reshape-requires g c =
-    let p = c.args.p.now in
-    let lost = c.lost_count-lost.ensures in
-    let counts = counted p c.args.rows c.args.columns c.args.v _ c.requires lost in
-    record {
-      bounds = bounds (view p) c.requires.reachable;
-      fits = subst (Fits p c.args.rows c.args.columns 0) lost
-          (room p _ _ _ _ _ _ counts refl c.ask-asked.result c.requires c.ask-asked.ensures.which c.if-is_err.ensures.value c.ask-asked.ensures.goes);
-    }
+    let a = c.args in
+    let q = err_from_is_err_and c.from_residual.result c.from_residual.ensures.1 in
+    rw (q.1, q.2) (full p _ _ _ _ _ (resized (table_of p) a.rows a.columns a.v (right p)) _ c.requires
+    (asked_as p _ a.rows a.columns 0 _ a.rows a.columns 0 _ refl refl refl c.lost_count-lost.ensures c.in_err-ask.ensures.which))
 
 pub returns : goal.returns
 returns g c =
     let p = c.args.p.now in
-    let m = c.args.rows in
-    let n = c.args.columns in
-    let v = c.args.v in
-    let lost = c.lost_count-lost.ensures in
-    accepts p _ _ _ _ _ _ (counted p m n v _ c.requires lost) refl c.ask-asked.result c.requires c.ask-asked.ensures.which c.if-is_err.ensures.value c.ask-asked.ensures.goes
-    c.reshape.new.p (subst (Performed p c.reshape.new.p (resize_to m n v) m n []) (sym lost) c.reshape.ensures)
+    let a = c.args in
+    accepted p _ _ _ _ _ _ (resized (table_of p) a.rows a.columns a.v (right p)) c.reshape.ensures c.requires
+    (asked_as p _ a.rows a.columns 0 _ a.rows a.columns 0 _ refl refl refl c.lost_count-lost.ensures c.in_ok-ask.ensures.which)

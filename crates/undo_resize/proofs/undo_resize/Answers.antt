@@ -1,66 +1,47 @@
-use Rattle.std.proofs.Common.{◌*◌, take, Ok, sym, ap, ◌∙◌, subst}
+use Rattle.std.proofs.Common.{◌*◌, take, refl, ap, ◌∙◌, arith}
 use base.Stored.{Coded-set}
-use Rattle.model.specs.Journal.{undo}
-use Rattle.model.proofs.Reaching.{bounds}
-use Rattle.journal.specs.View.{view}
-use Rattle.journal.specs.Answering.{Answers, Held}
-use Rattle.journal.proofs.Answering.{cells_fit}
-use Rattle.leaving.specs.Leaving.{Newest}
-use Rattle.leaving.proofs.Undoing.{own_runs, own_cells, undone}
-use Rattle.undo_resize.proofs.Own.{some_entry}
-use Rattle.undo_resize.proofs.Taking.{cells_room, saved_room, table_back}
+use Rattle.journal.proofs.Answering.{same_room}
+use Rattle.leaving.proofs.Undoing.{former_fits, own_cells, own_runs, some_entry, undone}
+use Rattle.undo_resize.proofs.Taking.{all_there, table_back}
 use Rattle.undo_resize.proofs.undo_resize.Goals as goal
-
-pub overflow_sub-top : goal.overflow_sub-top
-overflow_sub-top g c =
-    let same = c.take_out-cells.ensures.value in
-    let held = subst Held (sym same) c.requires.held in
-    let is = subst (λ z. Newest z c.args.entry) (sym same) c.requires.newest in
-    own_cells c.take_out-cells.result c.args.entry held is
-
-pub bring_back_shape-requires : goal.bring_back_shape-requires
-bring_back_shape-requires g c =
-    let same = c.take_out-cells.ensures.value in
-    let held = subst Held (sym same) c.requires.held in
-    let is = subst (λ z. Newest z c.args.entry) (sym same) c.requires.newest in
-    let q = c.take_out-cells.result in
-    record {
-      table = (cells_fit q (bounds (view q) held.reachable), cells_room q c.args.entry held is c.requires.noted);
-      room = saved_room q c.args.entry held is c.requires.noted;
-    }
-
-pub leave-requires : goal.leave-requires
-leave-requires g c =
-    let same = c.take_out-cells.ensures.value in
-    let held = subst Held (sym same) c.requires.held in
-    let is = subst (λ z. Newest z c.args.entry) (sym same) c.requires.newest in
-    let q = c.take_out-cells.result in
-    let e = c.args.entry in
-    (some_entry q e held is, own_runs q e held is, own_cells q e held is)
 
 pub returns : goal.returns
 returns g c =
-    let same = c.take_out-cells.ensures.value in
-    let held = subst Held (sym same) c.requires.held in
-    let is = subst (λ z. Newest z c.args.entry) (sym same) c.requires.newest in
-    let q = c.take_out-cells.result in
+    let p = c.args.p.now in
     let e = c.args.entry in
+    let held = c.requires.held in
+    let is = c.requires.newest in
     let w = c.leave.ensures.rest in
-    let last = c.leave.new.p in
-    let cells = ap (λ r. r.now) c.leave.ensures.cells in
-    let h = c.bring_back_shape.ensures in
-    subst (λ z. Answers z last undo (Ok tt)) same
-    (undone q e held is last
+    let h = c.bring_back_shape.ensures.cells in
+    undone p e held is c.leave.new.p
     (record {
       rows = w.rows;
       columns = w.columns;
       entries = w.entries;
       runs = w.runs;
       saved = w.saved;
-      long = w.long ∙ h.long;
-      entries_top = w.entries_top;
-      runs_top = w.runs_top;
-      saved_top = w.saved_top;
+      room = w.room ∙ same_room _ _ _ _ _ _ _ _ h.long refl refl refl;
     })
     (Coded-set g.row.T.coded)
-    (λ v. ap (take (v.former.table.rows * v.former.table.columns)) cells ∙ table_back q e held is c.requires.noted v _ h))
+    (λ v. ap (λ r. take (v.former.table.rows * v.former.table.columns) r.now) c.leave.ensures.cells ∙ table_back p e held is c.requires.noted _ c.newest-own.ensures v _ h)
+
+pub newest-own-requires : goal.newest-own-requires
+newest-own-requires g c = own_cells c.args.p.now c.args.entry c.requires.held c.requires.newest
+
+pub bring_back_shape-requires-clause-fits : goal.bring_back_shape-requires-clause-fits
+bring_back_shape-requires-clause-fits g c = (former_fits c.args.p.now c.args.entry c.requires.held c.requires.newest).cells
+
+pub bring_back_shape-requires-clause-there : goal.bring_back_shape-requires-clause-there
+bring_back_shape-requires-clause-there g c =
+    all_there c.args.p.now c.args.entry c.requires.held c.requires.newest c.requires.noted _ c.newest-own.ensures
+
+pub leave-requires-clause-there : goal.leave-requires-clause-there
+leave-requires-clause-there g c =
+    let p = c.args.p.now in
+    let e = c.args.entry in
+    (some_entry p e c.requires.held c.requires.newest, own_runs p e c.requires.held c.requires.newest, own_cells p e c.requires.held c.requires.newest)
+
+pub leave-requires-clause-fits : goal.leave-requires-clause-fits
+leave-requires-clause-fits g c =
+    let f = former_fits c.args.p.now c.args.entry c.requires.held c.requires.newest in
+    record { rows = f.rows; columns = f.columns; cells = omega (arith, f.cells, c.bring_back_shape.ensures.cells.long) }

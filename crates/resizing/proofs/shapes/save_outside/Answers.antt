@@ -1,25 +1,27 @@
-use Rattle.std.proofs.Common.{arith}
+use Rattle.std.proofs.Common.{◌-◌, ◌*◌, sym, ap₂, mul_comm, arith}
 use Rattle.moves.proofs.Places.{columns_wider}
-use Rattle.resizing.proofs.Corners.{both_parts, outside_saved}
+use Rattle.model.proofs.Resized.{outside}
+use Rattle.resizing.proofs.Corners.{outside_saved}
 use Rattle.resizing.proofs.shapes.save_outside.Goals as goal
 
 pub save_rows-requires : goal.save_rows-requires
 save_rows-requires g c =
-    let a = c.args in
-    (omega arith, omega (arith, columns_wider a.rows a.n a.columns (omega arith)), omega (arith, both_parts a.rows a.columns a.m a.n (omega arith) (omega arith)))
+    let t = c.args.table.now in
+    let a = c.min-upper.result in
+    let b = c.min-left.result in
+    let e = ap₂ ◌*◌ c.min-upper.ensures c.min-left.ensures in
+    (omega arith, omega (arith, columns_wider t.rows b t.columns (omega arith), t.fits), omega (arith, e, outside t.rows t.columns a b (omega arith) (omega arith)))
 
-pub overflow_mul-lower : goal.overflow_mul-lower
-overflow_mul-lower g c = let a = c.args in omega (arith, both_parts a.rows a.columns a.m a.n (omega arith) (omega arith))
+pub save_lines-requires-clause-fits : goal.save_lines-requires-clause-fits
+save_lines-requires-clause-fits g c =
+    let t = c.args.table.now in
+    let a = c.min-upper.result in
+    let b = c.min-left.result in
+    let e = ap₂ ◌*◌ c.min-upper.ensures c.min-left.ensures in
+    omega (arith, e, c.save_rows.ensures.saved.long, c.save_rows.ensures.same, mul_comm b (t.rows - a), outside t.rows t.columns a b (omega arith) (omega arith))
 
-pub overflow_add-top : goal.overflow_add-top
-overflow_add-top g c = let a = c.args in omega (arith, both_parts a.rows a.columns a.m a.n (omega arith) (omega arith))
-
-pub save_columns-requires : goal.save_columns-requires
-save_columns-requires g c =
-    let a = c.args in
-    (omega arith, omega arith, omega (arith, c.save_rows.ensures.long, both_parts a.rows a.columns a.m a.n (omega arith) (omega arith)))
-
-pub returns : goal.returns
-returns g c =
-    let a = c.args in
-    outside_saved a.rows a.columns a.m a.n (omega arith) (omega arith) _ _ _ _ a.top c.save_rows.ensures c.save_columns.ensures
+pub returns-clause-saved : goal.returns-clause-saved
+returns-clause-saved g c =
+    let t = c.args.table.now in
+    rw (sym c.min-upper.ensures, sym c.min-left.ensures)
+    (outside_saved t.rows t.columns c.min-upper.result c.min-left.result (omega arith) (omega arith) _ _ _ _ c.save_rows.ensures.saved c.save_lines.ensures.saved)

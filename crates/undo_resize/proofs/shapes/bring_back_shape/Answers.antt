@@ -1,48 +1,32 @@
-use Rattle.std.proofs.Common.{◌-◌, arith}
-use Rattle.moves.proofs.Places.{columns_same}
-use Rattle.undo_resize.proofs.Corners.{both_now, both_before, behind_before, both_parts, widened}
+use Rattle.std.proofs.Common.{◌-◌, mul_comm, arith}
+use Rattle.moves.proofs.Places.{columns_same, columns_split, columns_wider}
+use Rattle.undo_resize.proofs.Corners.{both_parts, widened}
 use Rattle.undo_resize.proofs.shapes.bring_back_shape.Goals as goal
 
 pub bring_back_rows-requires : goal.bring_back_rows-requires
 bring_back_rows-requires g c =
     let a = c.args in
-    let e = c.min-both.ensures in
+    let t = a.table.now in
     let b = c.min-both.result in
-    (omega (arith, both_now a.m a.n a.rows a.columns b e), omega (arith, both_before a.m a.n a.rows a.columns b e), omega (arith, both_parts a.m a.n a.rows a.columns b e))
-
-pub overflow_mul-lower : goal.overflow_mul-lower
-overflow_mul-lower g c =
-    let a = c.args in
-    let b = c.min-both.result in
-    let s = columns_same c.saturating_sub.result (a.rows - a.m) b c.saturating_sub.ensures in
-    omega (arith, both_parts a.m a.n a.rows a.columns b c.min-both.ensures)
-
-pub overflow_add-top : goal.overflow_add-top
-overflow_add-top g c =
-    let a = c.args in
-    let b = c.min-both.result in
-    let s = columns_same c.saturating_sub.result (a.rows - a.m) b c.saturating_sub.ensures in
-    omega (arith, both_parts a.m a.n a.rows a.columns b c.min-both.ensures)
-
-pub overflow_mul-both : goal.overflow_mul-both
-overflow_mul-both g c =
-    let a = c.args in
-    omega (arith, behind_before a.m a.n a.rows a.columns c.min-both.result c.min-both.ensures)
-
-pub overflow_mul-columns : goal.overflow_mul-columns
-overflow_mul-columns g c =
-    let a = c.args in
-    omega (arith, behind_before a.m a.n a.rows a.columns c.min-both.result c.min-both.ensures)
+    let e = c.min-both.ensures in (
+      omega (arith, columns_wider t.rows b t.columns (omega arith), t.fits),
+      omega (arith, columns_wider a.rows b a.columns (omega arith), c.requires.fits),
+      omega (arith, both_parts t.rows t.columns a.rows a.columns b e, c.requires.there),
+    )
 
 pub copy_block-requires : goal.copy_block-requires
 copy_block-requires g c =
     let a = c.args in
+    let t = a.table.now in
     let b = c.min-both.result in
     let e = c.min-both.ensures in
-    let s = columns_same c.saturating_sub.result (a.rows - a.m) b c.saturating_sub.ensures in
-    (omega (arith, both_parts a.m a.n a.rows a.columns b e), omega (arith, c.bring_back_rows.ensures.long, behind_before a.m a.n a.rows a.columns b e))
+    let s = columns_same c.saturating_sub.result (a.rows - t.rows) b c.saturating_sub.ensures in (
+      omega (arith, s, both_parts t.rows t.columns a.rows a.columns b e, c.requires.there),
+      omega (arith, c.bring_back_rows.ensures.long, columns_split b a.columns a.rows (omega arith), mul_comm a.columns a.rows, c.requires.fits),
+    )
 
-pub returns : goal.returns
-returns g c =
+pub returns-clause-cells : goal.returns-clause-cells
+returns-clause-cells g c =
     let a = c.args in
-    widened a.m a.n a.rows a.columns _ c.min-both.ensures _ _ _ _ _ a.top c.saturating_sub.ensures c.bring_back_rows.ensures c.copy_block.ensures
+    let t = a.table.now in
+    widened t.rows t.columns a.rows a.columns _ c.min-both.ensures _ _ _ _ _ c.saturating_sub.ensures c.bring_back_rows.ensures c.copy_block.ensures
