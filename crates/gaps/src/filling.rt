@@ -1,30 +1,25 @@
-ghost use Rattle.layout.specs.declared.side.Side.TheVariants.{Rows, Columns};
+ghost use Rattle.std.specs.Prelude.{◌≡◌, ◌+◌, ◌≤◌, length};
+ghost use Rattle.moves.specs.Blocks.{block_of, cells_with, columns_with, lines_in, rows_with};
+ghost use Rattle.gaps.specs.Taken.{RowsTaken};
 ghost use Rattle.gaps.specs.Gaps.{Filled, Roomy};
 
-use super::taking::{take_block, take_rows};
-use journal::entering::enter;
+use super::taking::take_rows;
 use journal::parts::{Note, Parts};
 use layout::side::Side;
+use moves::vec_storage::Table;
 
-fn fill_rows<T: Copy>(p: &mut Parts<'_, T>, i: u32, n: u32, list: &[T], v: T)
-    requires { Roomy p.old Rows i n }
-    ensures { Filled p.old p.new Rows i n list.now v }
+// Counts n lines more, and writes the list, and v behind it, into those at i.
+fn take_lines<T: Copy>(table: &mut Table<'_, T>, side: Side, i: u32, n: u32, list: &[T], v: T)
+    requires there { i ≤ lines_in side table.old.rows table.old.columns }
+    requires few { lines_in side table.old.rows table.old.columns + n ≤ 4096 }
+    requires fits { cells_with side (lines_in side table.old.rows table.old.columns + n) table.old.rows table.old.columns ≤ length table.old.cells.now }
+    ensures cells { RowsTaken table.old.cells.now table.new.cells.now (block_of side table.new.rows table.new.columns i n) list.now v }
+    ensures shape { (table.new.rows ≡ rows_with side (lines_in side table.old.rows table.old.columns + n) table.old.rows) × (table.new.columns ≡ columns_with side (lines_in side table.old.rows table.old.columns + n) table.old.columns) }
 {
-    let rows = p.rows as usize + n as usize;
-    let columns = p.columns as usize;
-    take_rows(p.cells, rows, columns, i as usize, n as usize, list, v);
-    enter(p, Note::Gap(Side::Rows, i, n), 0, 0);
-    p.rows += n;
-}
-
-fn fill_columns<T: Copy>(p: &mut Parts<'_, T>, i: u32, n: u32, list: &[T], v: T)
-    requires { Roomy p.old Columns i n }
-    ensures { Filled p.old p.new Columns i n list.now v }
-{
-    let rows = p.rows as usize;
-    take_block(p.cells, i as usize * rows, n as usize * rows, list, 0, v);
-    enter(p, Note::Gap(Side::Columns, i, n), 0, 0);
-    p.columns += n;
+    let grown = table.count(side) + n;
+    table.set_count(side, grown);
+    let gap = table.block(side, i, n);
+    take_rows(table.cells, gap, list, v);
 }
 
 // Writes the list, and v behind it, into the gap of n lines at i, column by column; enters the change.
@@ -32,8 +27,7 @@ pub fn fill_gap<T: Copy>(p: &mut Parts<'_, T>, side: Side, i: u32, n: u32, list:
     requires { Roomy p.old side i n }
     ensures { Filled p.old p.new side i n list.now v }
 {
-    match side {
-        Side::Rows => fill_rows(p, i, n, list, v),
-        Side::Columns => fill_columns(p, i, n, list, v),
-    }
+    let entry = p.entry(Note::Gap(side, i, n), 0, 0);
+    take_lines(&mut p.table, side, i, n, list, v);
+    p.entries.push(entry);
 }

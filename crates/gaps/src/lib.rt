@@ -3,4 +3,4 @@
 
 pub mod filling;
 pub mod opening;
-pub mod taking;
+mod taking;
