@@ -1,4 +1,5 @@
 ghost use Rattle.std.specs.Prelude.{◌≡◌, ◌*◌, ◌≤◌, length, MatchResult};
+ghost use Rattle.layout.specs.Cells.{Cloned};
 ghost use Rattle.layout.specs.Checks.{Checked};
 ghost use Rattle.model.specs.Journal.{opened};
 ghost use Rattle.journal.specs.View.{room_of, view};
@@ -7,6 +8,7 @@ ghost use Rattle.sheet.specs.Opening.{opening_rules, room, table_in};
 use journal::parts::Parts;
 use layout::refusal::Refusal;
 use layout::storage::{Layout, clone_owned};
+use moves::vec_storage::Table;
 
 // How many places the handed-in buffers have.
 #[derive(Clone, Copy)]
@@ -37,15 +39,24 @@ pub(crate) fn ask_opening<L: Layout>(layout: &L, source: usize, sizes: Sizes) ->
     Ok(())
 }
 
+// Makes the layout's table of it.
+fn copy_table<L: Layout, T: Copy>(table: &mut Table<'_, T>, layout: &L, source: &[T])
+    requires { ((L.grid layout.now).span ≤ length source.now) × ((L.grid layout.now).rows * (L.grid layout.now).columns ≤ length table.old.cells.now) }
+    ensures cells { Cloned (L.grid layout.now) source.now table.old.cells.now table.new.cells.now (L.grid layout.now).columns }
+    ensures shape { (table.new.rows ≡ (L.grid layout.now).rows) × (table.new.columns ≡ (L.grid layout.now).columns) }
+{
+    let (rows, columns) = layout.shape();
+    // The questions were put, so this is not refused; a `?` would make a refusal of it.
+    let _ = clone_owned(layout, source, table.cells);
+    table.set_shape(rows, columns);
+}
+
 // Copies the table to the cells, with an empty journal.
 pub(crate) fn fill<L: Layout, T: Copy>(p: &mut Parts<'_, T>, layout: &L, source: &[T])
     requires { ((L.grid layout.now).span ≤ length source.now) × ((L.grid layout.now).rows * (L.grid layout.now).columns ≤ length p.old.table.cells.now) }
     ensures { view p.new ≡ opened (table_in (L.grid layout.now) source.now) (room_of p.old) }
 {
-    let (rows, columns) = layout.shape();
-    // The questions were put, so this is not refused; a `?` would make a refusal of it.
-    let _ = clone_owned(layout, source, p.table.cells);
-    p.table.set_shape(rows, columns);
+    copy_table(&mut p.table, layout, source);
     p.entries.clear();
     p.runs.clear();
     p.saved.clear();

@@ -65,10 +65,10 @@ impl<'a, T: Copy> Sheet<'a, T> {
         ensures made { Passes (opening_rules (L.grid layout.now) (length source.now) (room_in cells.old entries.old runs.old saved.old)) → view result.parts ≡ opened (table_in (L.grid layout.now) source.now) (room_in cells.old entries.old runs.old saved.old) }
         ensures refused { (Passes (opening_rules (L.grid layout.now) (length source.now) (room_in cells.old entries.old runs.old saved.old)) → ⊥) → view result.parts ≡ opened no_table (room 0 0 0 0) }
     {
-        match Sheet::new(layout, source, cells, entries, runs, saved) {
-            Ok(sheet) => sheet,
-            Err(_) => Sheet::empty(),
-        }
+        let Ok(sheet) = Sheet::new(layout, source, cells, entries, runs, saved) else {
+            return Sheet::empty();
+        };
+        sheet
     }
 
     fn empty() -> Sheet<'a, T>

@@ -50,9 +50,9 @@ impl<'a, T: Copy> Gapped<'a, T> {
             count,
             answer,
         } = self;
-        if answer.is_err() {
+        let Ok(()) = answer else {
             return Sheet { parts };
-        }
+        };
         filling::fill_gap(&mut parts, side, at, count, list, v);
         Sheet { parts }
     }
