@@ -1,5 +1,5 @@
 -- A swap taken back.
-use Rattle.std.proofs.Common.{◌≡◌, ℕ, suc, ◌*◌, ◌<◌, ◌≤◌, true, ◌&&◌, ltb, List, length, take, sym, ap, ◌∙◌, subst, ap₂, arith}
+use Rattle.std.proofs.Common.{◌≡◌, ℕ, suc, ◌*◌, ◌<◌, true, ◌&&◌, ltb, List, take, sym, ap, ◌∙◌, subst, ap₂, arith}
 use Rattle.std.proofs.lemmas.Bool.{and_parts, ltb-true}
 use Rattle.layout.specs.Lawful.{dense}
 use Rattle.model.specs.Sheet.{Change, insert_lines, remove_lines, remove_listed, swap_lines, fill_lines, resize_to, Table, changed}
@@ -12,7 +12,8 @@ use Rattle.layout.specs.declared.side.Side.TheVariants.{Rows, Columns}
 use Rattle.journal.specs.declared.parts.Note.TheVariants.{Exchange}
 use Rattle.journal.specs.declared.parts.Entry.{Entry}
 use Rattle.journal.specs.declared.parts.Parts.{Parts}
-use Rattle.journal.specs.View.{note_of, side_of, view, lines_in}
+use Rattle.moves.specs.Blocks.{lines_in}
+use Rattle.journal.specs.View.{note_of, side_of, view}
 use Rattle.journal.specs.Answering.{Held}
 use Rattle.leaving.specs.Leaving as leaving
 use Rattle.leaving.proofs.Undoing.{by_change, its_entry}
@@ -50,28 +51,28 @@ module _ {A : Type 0} (p : Parts A) (e : Entry) (held : Held p) (is : leaving.Ne
     table_is : (view p).table ≡ changed w.former.table (swap_lines (side_of side) i j)
     table_is = ap (λ (z : Sheet A). z.table) w.is ∙ ap (changed w.former.table) change_is
 
-    rows_are : p.rows ≡ w.former.table.rows
+    rows_are : p.table.rows ≡ w.former.table.rows
     rows_are = ap (λ (z : Table A). z.rows) table_is ∙ (counts side w.former.table i j there.0 there.1).rows
 
-    columns_are : p.columns ≡ w.former.table.columns
+    columns_are : p.table.columns ≡ w.former.table.columns
     columns_are = ap (λ (z : Table A). z.columns) table_is ∙ (counts side w.former.table i j there.0 there.1).columns
 
-    lines_are : lines_in side w.former.table.rows w.former.table.columns ≡ lines_in side p.rows p.columns
+    lines_are : lines_in side w.former.table.rows w.former.table.columns ≡ lines_in side p.table.rows p.table.columns
     lines_are = ap₂ (lines_in side) (sym rows_are) (sym columns_are)
 
-  pub lines_there : (i < lines_in side p.rows p.columns) × (j < lines_in side p.rows p.columns)
+  pub lines_there : (i < lines_in side p.table.rows p.table.columns) × (j < lines_in side p.table.rows p.table.columns)
   lines_there = (
-    by_change p e held is (suc i) (lines_in side p.rows p.columns) (λ w. subst (λ z. i < z) (lines_are w) (there w).0),
-    by_change p e held is (suc j) (lines_in side p.rows p.columns) (λ w. subst (λ z. j < z) (lines_are w) (there w).1),
+    by_change p e held is (suc i) (lines_in side p.table.rows p.table.columns) (λ w. subst (λ z. i < z) (lines_are w) (there w).0),
+    by_change p e held is (suc j) (lines_in side p.table.rows p.table.columns) (λ w. subst (λ z. j < z) (lines_are w) (there w).1),
   )
 
-  pub swapped_back : (zs : List A) → p.rows * p.columns ≤ length p.cells.now → Swapped side (dense p.rows p.columns) p.cells.now zs i j
+  pub swapped_back : (zs : List A) → Swapped side (dense p.table.rows p.table.columns) p.table.cells.now zs i j
       → (w : Newest (view p)) → take (w.former.table.rows * w.former.table.columns) zs ≡ w.former.table.cells
-  swapped_back zs fit s w =
+  swapped_back zs s w =
       let f = w.former.table in
       let er = rows_are w in
       let ec = columns_are w in
-      let s2 = subst (λ z. Swapped side (dense f.rows z) p.cells.now zs i j) ec (subst (λ z. Swapped side (dense z p.columns) p.cells.now zs i j) er s) in
-      let size : p.rows * p.columns ≡ f.rows * f.columns = ap₂ ◌*◌ er ec in
-      exchanged_back side f i j (there w).0 (there w).1 w.bounds.right p.cells.now zs s2 (omega arith)
-      (ap (λ k. take k p.cells.now) (sym size) ∙ ap (λ (z : Table A). z.cells) (table_is w))
+      let s2 = subst (λ z. Swapped side (dense f.rows z) p.table.cells.now zs i j) ec (subst (λ z. Swapped side (dense z p.table.columns) p.table.cells.now zs i j) er s) in
+      let size : p.table.rows * p.table.columns ≡ f.rows * f.columns = ap₂ ◌*◌ er ec in
+      exchanged_back side f i j (there w).0 (there w).1 w.bounds.right p.table.cells.now zs s2 (omega (arith, p.table.fits))
+      (ap (λ k. take k p.table.cells.now) (sym size) ∙ ap (λ (z : Table A). z.cells) (table_is w))

@@ -12,7 +12,8 @@ use Rattle.model.proofs.Joins.{former_cell, lying, same_cell, table_cells}
 use Rattle.model.proofs.Lines.{keep_at}
 use Rattle.layout.specs.declared.side.Side.{Side}
 use Rattle.layout.specs.declared.side.Side.TheVariants.{Rows, Columns}
-use Rattle.journal.specs.View.{side_of, lines_in}
+use Rattle.moves.specs.Blocks.{lines_in}
+use Rattle.journal.specs.View.{side_of}
 use Rattle.swaps.specs.Exchange.{Swapped}
 
 -- of the two lines the other one comes

@@ -53,36 +53,37 @@ pub record Stands {A : Type 0} (t : Table A) (ch : Change A) (m : ℕ) (ys zs : 
   pub same : (d : A) → get_or zs (r + c * t.rows) d ≡ get_or ys (k + l * m) d
 
 module _ {A : Type 0} (p : Parts A) (w : Newest (view p)) where
-  pub rows_now : p.rows ≡ length (rows_of w.former.table w.last)
+  pub rows_now : p.table.rows ≡ length (rows_of w.former.table w.last)
   rows_now = ap (λ (z : Sheet A). z.table.rows) w.is
 
-  pub columns_now : p.columns ≡ length (columns_of w.former.table w.last)
+  pub columns_now : p.table.columns ≡ length (columns_of w.former.table w.last)
   columns_now = ap (λ (z : Sheet A). z.table.columns) w.is
 
   -- the former table had room in the buffer
-  pub former_fits : w.former.table.rows * w.former.table.columns ≤ length p.cells.now
+  pub former_fits : w.former.table.rows * w.former.table.columns ≤ length p.table.cells.now
   former_fits =
-      let e : length p.cells.now ≡ w.former.room.for_cells = ap (λ (z : Sheet A). z.room.for_cells) w.is in
+      let e : length p.table.cells.now ≡ w.former.room.for_cells = ap (λ (z : Sheet A). z.room.for_cells) w.is in
       omega (arith, w.bounds.cells)
 
   -- a buffer that has every former cell in its old place
   pub former_back :
-      (zs : List A) → length zs ≡ length p.cells.now → p.rows * p.columns ≤ length p.cells.now
-      → ((r c : ℕ) → r < w.former.table.rows → c < w.former.table.columns → Stands w.former.table w.last p.rows p.cells.now zs r c)
+      (zs : List A) → length zs ≡ length p.table.cells.now
+      → ((r c : ℕ) → r < w.former.table.rows → c < w.former.table.columns → Stands w.former.table w.last p.table.rows p.table.cells.now zs r c)
       → take (w.former.table.rows * w.former.table.columns) zs ≡ w.former.table.cells
-  former_back zs long fits h =
+  former_back zs long h =
       let t = w.former.table in
       let ch : Change A = w.last in
-      let ys = p.cells.now in
+      let ys = p.table.cells.now in
       let room = former_fits in
       let er = rows_now in
       let ec = columns_now in
       table_cells t zs w.bounds.right (omega arith) (λ r c a b.
       let s = h r c a b in
-      let hk : s.k < p.rows = omega (arith, s.on_row.there) in
-      let hl : s.l < p.columns = omega (arith, s.on_column.there) in
+      let hk : s.k < p.table.rows = omega (arith, s.on_row.there) in
+      let hl : s.l < p.table.columns = omega (arith, s.on_column.there) in
       let below = mul-add-lt c t.rows r t.columns b a in
-      let inside = mul-add-lt s.l p.rows s.k p.columns hl hk in
-      same_cell zs ys (r + c * t.rows) (s.k + s.l * p.rows) (omega arith) (omega arith) s.same
-      ∙ former_cell t ch p.rows p.columns ys w.bounds.right (newest_named (view p) w) (sym er) (sym ec)
+      let fits = p.table.fits in
+      let inside = mul-add-lt s.l p.table.rows s.k p.table.columns hl hk in
+      same_cell zs ys (r + c * t.rows) (s.k + s.l * p.table.rows) (omega arith) (omega arith) s.same
+      ∙ former_cell t ch p.table.rows p.table.columns ys w.bounds.right (newest_named (view p) w) (sym er) (sym ec)
       (ap (λ (z : Sheet A). z.table.cells) w.is) s.k s.l r c hk hl s.on_row.is s.on_column.is)

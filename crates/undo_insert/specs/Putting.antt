@@ -1,15 +1,9 @@
 -- Lines put in, as an entry notes them.
-use Rattle.std.specs.Prelude.{◌≡◌, ℕ, ◌<◌, ◌≤◌, ◌⊎◌}
+use Rattle.std.specs.Prelude.{◌≡◌, ℕ, ◌⊎◌}
 use Rattle.layout.specs.declared.side.Side.{Side}
 use Rattle.journal.specs.declared.parts.Note.{Note}
 use Rattle.journal.specs.declared.parts.Note.TheVariants.{Insertion, Gap}
-use Rattle.journal.specs.declared.parts.Entry.{Entry}
-use Rattle.journal.specs.declared.parts.Parts.{Parts}
 
 -- n lines of the side came in before line i, by an insertion or a filled gap
 abbrev pub Puts : Note → Side → ℕ → ℕ → Type 0
 Puts note side i n = (note ≡ Insertion side i n) ⊎ (note ≡ Gap side i n)
-
--- the entry, its runs and its saved cells are there to be freed
-abbrev pub Leaves : {A : Type 0} → Parts A → Entry → Type 0
-Leaves p entry = (0 < p.tops.entries) × (entry.runs ≤ p.tops.runs) × (entry.cells ≤ p.tops.saved)

@@ -1,39 +1,44 @@
-use Rattle.std.proofs.Common.{subst}
+use Rattle.std.proofs.Common.{List, MutBor, sym, refl, ap, ◌∙◌, subst, arith}
 use base.Stored.{Coded-set}
-use Rattle.undo_insert.specs.Putting.{Puts}
-use Rattle.undo_insert.proofs.Undoing.{leaves, fits, rows_there, rows_undone, columns_there, columns_undone}
+use Rattle.moves.specs.Blocks.{block_of}
+use Rattle.moves.specs.Tables.{Compressed}
+use Rattle.journal.proofs.Answering.{same_room}
+use Rattle.leaving.proofs.Undoing.{former_fits, own_cells, own_runs, some_entry, undone}
+use Rattle.undo_insert.proofs.Undoing.{lines_there, lines_back}
 use Rattle.undo_insert.proofs.undo_insert.Goals as goal
 
-pub take_rows-requires : goal.take_rows-requires
-take_rows-requires g c =
+pub remove_lines-requires : goal.remove_lines-requires
+remove_lines-requires g c =
+    omega (arith, lines_there c.args.p.now c.args.entry c.requires.held c.requires.newest c.args.i c.args.n c.args.side c.requires.noted)
+
+pub leave-requires : goal.leave-requires
+leave-requires g c =
     let p = c.args.p.now in
     let e = c.args.entry in
+    let r = c.requires in
+    let f = former_fits p e r.held r.newest in
     record {
-      there = rows_there p e c.requires.held c.requires.newest c.args.i c.args.n (subst (λ s. Puts e.note s c.args.i c.args.n) c.in-Rows.is c.requires.noted);
-      fits = fits p e c.requires.held c.requires.newest;
-      leaves = leaves p e c.requires.held c.requires.newest;
+      there = (some_entry p e r.held r.newest, own_runs p e r.held r.newest, own_cells p e r.held r.newest);
+      fits = record { rows = f.rows; columns = f.columns; cells = omega (arith, f.cells, c.remove_lines.ensures.cells.long) };
     }
 
-pub take_columns-requires : goal.take_columns-requires
-take_columns-requires g c =
+pub returns : goal.returns
+returns g c =
     let p = c.args.p.now in
     let e = c.args.entry in
-    record {
-      there = columns_there p e c.requires.held c.requires.newest c.args.i c.args.n (subst (λ s. Puts e.note s c.args.i c.args.n) c.in-Columns.is c.requires.noted);
-      fits = fits p e c.requires.held c.requires.newest;
-      leaves = leaves p e c.requires.held c.requires.newest;
-    }
-
-pub returns-in-Rows : goal.returns-in-Rows
-returns-in-Rows g c =
-    let e = c.args.entry in
-    rows_undone c.args.p.now e c.requires.held c.requires.newest c.args.i c.args.n
-    (subst (λ s. Puts e.note s c.args.i c.args.n) c.in-Rows.is c.requires.noted)
-    (Coded-set g.row.T.coded) c.take_rows.new.p c.take_rows.ensures.cells c.take_rows.ensures.rest
-
-pub returns-in-Columns : goal.returns-in-Columns
-returns-in-Columns g c =
-    let e = c.args.entry in
-    columns_undone c.args.p.now e c.requires.held c.requires.newest c.args.i c.args.n
-    (subst (λ s. Puts e.note s c.args.i c.args.n) c.in-Columns.is c.requires.noted)
-    (Coded-set g.row.T.coded) c.take_columns.new.p c.take_columns.ensures.cells c.take_columns.ensures.rest
+    let a = c.args in
+    let h = c.remove_lines.ensures.cells in
+    let w = c.leave.ensures.rest in
+    let left = sym (ap (λ (r : MutBor (List g.row.T.Denot)). r.now) c.leave.ensures.cells) in
+    undone p e c.requires.held c.requires.newest c.leave.new.p
+    (record {
+      rows = w.rows;
+      columns = w.columns;
+      entries = w.entries;
+      runs = w.runs;
+      saved = w.saved;
+      room = w.room ∙ same_room _ _ _ _ _ _ _ _ h.long refl refl refl;
+    })
+    (Coded-set g.row.T.coded)
+    (lines_back p e c.requires.held c.requires.newest a.i a.n a.side c.requires.noted _
+    (subst (λ z. Compressed p.table.cells.now z (block_of a.side p.table.rows p.table.columns a.i a.n)) left h))
