@@ -1,14 +1,18 @@
 -- Blocks copied and slid, as lists.
 use Rattle.std.proofs.Common.{◌≡◌, ℕ, suc, ◌+◌, ◌-◌, ◌*◌, ◌<◌, ◌≤◌, List, [], ◌∷◌, ◌++◌, map, length, get_or, take, drop, sym, ap, ◌∙◌, subst, append_assoc, append-nil, add-mul, arith, length-append}
-use Rattle.std.proofs.lemmas.List.{get_or-take, get_or-drop, length-drop, length-take-le, same_lists, drop-drop, drop_more, drop_all}
+use Rattle.std.proofs.lemmas.List.{get_or-take, get_or-drop, length-drop, length-take-le, same_lists, drop-drop, drop_more, drop_all, take_all}
 use Rattle.moves.specs.Slides.{Copied, Slid}
-use Rattle.moves.proofs.Places.{next_column, columns_le, columns_lt, columns_split}
+use Rattle.moves.proofs.Places.{next_column, columns_le, columns_split}
 use Rattle.model.proofs.Joins.{put_behind}
 use Rattle.journal.specs.declared.parts.Run.{Run}
 use Rattle.journal.specs.View.{run_of}
 use Rattle.listed.specs.Runs.{Rising}
 use Rattle.listed.specs.Cuts.{Behind, between, taken, taken_of}
 use Rattle.listed.proofs.Walks.{rising_ends}
+
+-- all from place n on
+pub open_end : {A : Type 0} (xs : List A) (n : ℕ) → take (length xs - n) (drop n xs) ≡ drop n xs
+open_end xs n = take_all (length xs - n) (drop n xs) (omega (arith, length-drop n xs))
 
 module _ {A : Type 0} where
   block_long : (xs : List A) (from len : ℕ) → from + len ≤ length xs → length (take len (drop from xs)) ≡ len
@@ -47,27 +51,8 @@ run_room : (a e w from long : ℕ) (r : ℕ × ℕ) (rs : List (ℕ × ℕ)) →
 run_room a e w from long r rs s h = omega (arith, columns_le (r.0 + r.1) e w (rising_ends (r.0 + r.1) e rs s.1), add-mul r.0 r.1 w)
 
 module _ {A : Type 0} (w : ℕ) (xs : List A) (from e : ℕ) (inside : from + e * w ≤ length xs) where
-  pub taken_more : (a : ℕ) (r : ℕ × ℕ) (rs : List (ℕ × ℕ)) → Rising a (r ∷ rs) e
-      → length (taken w (drop from xs) (r ∷ rs)) ≡ r.1 * w + length (taken w (drop from xs) rs)
-  taken_more a r rs s =
-      let room = run_room a e w from (length xs) r rs s inside in
-      let long = length-drop from xs in
-      length-append (take (r.1 * w) (drop (r.0 * w) (drop from xs))) (taken w (drop from xs) rs)
-      ∙ ap (λ z. z + length (taken w (drop from xs) rs)) (block_long (drop from xs) (r.0 * w) (r.1 * w) (omega arith))
-
   pub run_inside : (a : ℕ) (r : ℕ × ℕ) (rs : List (ℕ × ℕ)) → Rising a (r ∷ rs) e → from + r.0 * w + r.1 * w ≤ length xs
   run_inside a r rs s = run_room a e w from (length xs) r rs s inside
-
-  pub saving_more : (was is : List A) (a to : ℕ) (r : ℕ × ℕ) (rs : List (ℕ × ℕ)) (whole : List A) → Rising a (r ∷ rs) e
-      → to + r.1 * w ≤ length was → Copied xs was is (from + r.0 * w) to (r.1 * w)
-      → take to was ++ taken w (drop from xs) (r ∷ rs) ≡ whole → take (to + r.1 * w) is ++ taken w (drop from xs) rs ≡ whole
-  saving_more was is a to r rs whole s room t h =
-      let rest = taken w (drop from xs) rs in
-      let block = take (r.1 * w) (drop (from + r.0 * w) xs) in
-      ap (λ z. z ++ rest) (copied_behind xs was is (from + r.0 * w) to (r.1 * w) (run_inside a r rs s) room t)
-      ∙ append_assoc (take to was) block rest
-      ∙ ap (λ z. take to was ++ (take (r.1 * w) z ++ rest)) (sym (drop-drop (r.0 * w) from xs))
-      ∙ h
 
 abbrev pub nought : Run
 nought = record { offset = 0; length = 0 }
@@ -87,46 +72,21 @@ pub ahead_none : (rs : List Run) (j : ℕ) → length rs ≤ j → ahead rs j �
 ahead_none rs j h = ap (map run_of) (drop_all j rs h)
 
 -- a turn of the loop that saves the runs of a group
-module _ {A : Type 0} (w : ℕ) (xs : List A) (from e : ℕ) (inside : from + e * w ≤ length xs) (rs : List Run) (j to : ℕ) (h : j < length rs)
+module _ {A : Type 0} (w : ℕ) (xs : List A) (e : ℕ) (inside : e * w ≤ length xs) (rs : List Run) (j : ℕ) (h : j < length rs)
     (rises : (a : ℕ) × Rising a (ahead rs j) e) where
-  next_rises : Rising rises.0 (run_at rs j ∷ ahead rs (j + 1)) e
-  next_rises = subst (λ zs. Rising rises.0 zs e) (ahead_more rs j h) rises.1
+  pub saving_inside : (run_at rs j).0 * w + (run_at rs j).1 * w ≤ length xs
+  saving_inside =
+      omega (arith, run_inside w xs 0 e (omega arith) rises.0 (run_at rs j) (ahead rs (j + 1)) (subst (λ zs. Rising rises.0 zs e) (ahead_more rs j h) rises.1))
 
-  next_long : length (taken w (drop from xs) (ahead rs j)) ≡ (run_at rs j).1 * w + length (taken w (drop from xs) (ahead rs (j + 1)))
-  next_long = ap (λ zs. length (taken w (drop from xs) zs)) (ahead_more rs j h) ∙ taken_more w xs from e inside rises.0 (run_at rs j) (ahead rs (j + 1)) next_rises
-
-  pub saving_room : (whole long : ℕ) → to + length (taken w (drop from xs) (ahead rs j)) ≡ whole → whole ≤ long
-      → (from + (run_at rs j).0 * w + (run_at rs j).1 * w ≤ length xs) × (to + (run_at rs j).1 * w ≤ long)
-  saving_room whole long f l =
-      (run_inside w xs from e inside rises.0 (run_at rs j) (ahead rs (j + 1)) next_rises, (let g = next_long in omega arith))
-
-  pub saving_next : (was is : List A) (whole : ℕ) (all : List A) → to + length (taken w (drop from xs) (ahead rs j)) ≡ whole → whole ≤ length was
-      → Copied xs was is (from + (run_at rs j).0 * w) to ((run_at rs j).1 * w)
-      → take to was ++ taken w (drop from xs) (ahead rs j) ≡ all
-      → ((a : ℕ) × Rising a (ahead rs (j + 1)) e)
-      × (to + (run_at rs j).1 * w + length (taken w (drop from xs) (ahead rs (j + 1))) ≡ whole)
-      × (take (to + (run_at rs j).1 * w) is ++ taken w (drop from xs) (ahead rs (j + 1)) ≡ all)
-  saving_next was is whole all f l t k = (
-    ((run_at rs j).0 + (run_at rs j).1, next_rises.1),
-    (let g = next_long in omega arith),
-    saving_more w xs from e inside was is rises.0 to (run_at rs j) (ahead rs (j + 1)) all next_rises (saving_room whole (length was) f l).1 t
-        (ap (λ zs. take to was ++ taken w (drop from xs) zs) (sym (ahead_more rs j h)) ∙ k),
-  )
-
--- the end of such a loop
-pub ended : {A : Type 0} (w : ℕ) (xs was is : List A) (rs : List Run) (j to top : ℕ) (more : List A) → length rs ≤ j → length is ≡ length was
-    → to + length (taken w xs (ahead rs j)) ≡ top + length more
-    → take to is ++ taken w xs (ahead rs j) ≡ take top was ++ more
-    → (to ≡ top + length more) × Behind was is top more
-ended w xs was is rs j to top more h long f k =
-    let none = ahead_none rs j h in
-    let e : to ≡ top + length more = (let g = ap (λ zs. length (taken w xs zs)) none in omega arith) in (
-      e,
-      record {
-        long = long;
-        put = ap (λ z. take z is) (sym e) ∙ sym (append-nil (take to is)) ∙ ap (λ zs. take to is ++ taken w xs zs) (sym none) ∙ k;
-      },
-    )
+  pub saving_fits : (is was more : List A) (room : ℕ) → is ++ taken w xs (ahead rs j) ≡ was ++ more → length was + length more ≤ room
+      → length is + length (take ((run_at rs j).0 * w + (run_at rs j).1 * w - (run_at rs j).0 * w) (drop ((run_at rs j).0 * w) xs)) ≤ room
+  saving_fits is was more room f l =
+      let r = run_at rs j in
+      let block = take (r.1 * w) (drop (r.0 * w) xs) in
+      let rest = taken w xs (ahead rs (j + 1)) in
+      let same = ap (λ k. length (take k (drop (r.0 * w) xs))) (let e : r.0 * w + r.1 * w - r.0 * w ≡ r.1 * w = omega arith in e) in
+      let split = ap (λ zs. length (taken w xs zs)) (ahead_more rs j h) ∙ length-append block rest in
+      omega (arith, ap length f, length-append is (taken w xs (ahead rs j)), length-append was more)
 
 -- the lines from a up to b moved to the left
 module _ {A : Type 0} (w : ℕ) (xs : List A) (from a b : ℕ) (ab : a ≤ b) (inside : from + b * w ≤ length xs) (to : ℕ) (back : to ≤ from + a * w) where
@@ -200,9 +160,6 @@ closed w xs from e inside rs j at to top h ae back tl ys zs more long long2 same
 
 -- one group more
 
-pub group_room : (g n size long : ℕ) → g < n → n * size ≤ long → g * size + size ≤ long
-group_room g n size long h l = omega (arith, columns_lt g n size h)
-
 module _ {A : Type 0} (w size g n : ℕ) (xs : List A) (rs : List (ℕ × ℕ)) (h : g < n) where
   group_more : taken_of w size g (n - g) xs rs ≡ taken w (drop (g * size) xs) rs ++ taken_of w size (g + 1) (n - (g + 1)) xs rs
   group_more = ap (λ k. taken_of w size g k xs rs) (let e : n - g ≡ suc (n - (g + 1)) = omega arith in e)
@@ -216,6 +173,17 @@ module _ {A : Type 0} (w size g n : ℕ) (xs : List A) (rs : List (ℕ × ℕ)) 
       let rest = taken_of w size (g + 1) (n - (g + 1)) xs rs in
       ap (λ z. take z is ++ rest) e ∙ ap (λ z. z ++ rest) b.put ∙ append_assoc (take to was) more rest
       ∙ ap (λ z. take to was ++ (z ++ rest)) same ∙ ap (λ z. take to was ++ z) (sym group_more) ∙ k
+
+  pub group_saved : (was is all : List A) → is ≡ was ++ taken w (drop (g * size) xs) rs
+      → was ++ taken_of w size g (n - g) xs rs ≡ all → is ++ taken_of w size (g + 1) (n - (g + 1)) xs rs ≡ all
+  group_saved was is all e k =
+      let rest = taken_of w size (g + 1) (n - (g + 1)) xs rs in
+      ap (λ z. z ++ rest) e ∙ append_assoc was (taken w (drop (g * size) xs) rs) rest ∙ ap (λ z. was ++ z) (sym group_more) ∙ k
+
+  pub group_fits : (is was more : List A) (room : ℕ) → is ++ taken_of w size g (n - g) xs rs ≡ was ++ more → length was + length more ≤ room
+      → length is + length (taken w (drop (g * size) xs) rs) ≤ room
+  group_fits is was more room f l =
+      omega (arith, group_long, ap length f, length-append is (taken_of w size g (n - g) xs rs), length-append was more)
 
 -- the same group, where nothing from it on has altered
 pub group_same : {A : Type 0} (w n : ℕ) (xs ys : List A) (rs : List (ℕ × ℕ)) → drop n ys ≡ drop n xs → taken w (drop n ys) rs ≡ taken w (drop n xs) rs

@@ -1,16 +1,17 @@
 -- The walk that finds the runs, against the model's runs.
-use Rattle.std.proofs.Common.{◌≡◌, ℕ, zero, suc, ◌+◌, ◌-◌, ◌<◌, ◌≤◌, Bool, true, false, cond, eqb, List, [], ◌∷◌, ◌++◌, map, length, get_or, take, set, sym, refl, ap, ◌∙◌, subst, ap₂, inl, inr, append_assoc, arith, length-append}
+use Rattle.std.proofs.Common.{◌≡◌, ℕ, zero, suc, ◌+◌, ◌-◌, ◌<◌, ◌≤◌, Bool, true, false, cond, eqb, List, [], ◌∷◌, ◌++◌, map, length, get_or, drop, sym, refl, ap, ◌∙◌, subst, ap₂, inl, inr, append_assoc, zero-add, arith, length-append}
 use mathlib.Core.List.{map-append}
 use Rattle.std.specs.List.{range_with_len}
 use Rattle.std.proofs.lemmas.List.FromFn.{length-range_with_len}
-use Rattle.std.proofs.lemmas.List.{take_more_set}
+use Rattle.std.specs.List.{sum_by}
+use Rattle.std.proofs.lemmas.List.{get_or-drop, length-drop}
+use Rattle.std.proofs.lemmas.List.Sums.{sum_by-cons}
 use Rattle.std.proofs.lemmas.Bool.{cases_lt, cases_Bool, cond-true, cond-false, eqb-true, eq-eqb, ne_eqb}
 use Rattle.model.specs.Journal.{begun, runs_from, lines_of}
 use Rattle.journal.specs.declared.parts.Run.{Run}
 use Rattle.journal.specs.View.{run_of}
 use Rattle.model.proofs.Listed.{runs_same}
-use Rattle.listed.specs.declared.finding.Found.{Found}
-use Rattle.listed.specs.Runs.{Rising, Skips, RunsFound, marked}
+use Rattle.listed.specs.Runs.{Leads, Rising, marked}
 
 -- runs that rise from b on rise from any line before
 pub rising_from : (a b e : ℕ) (rs : List (ℕ × ℕ)) → a ≤ b → Rising b rs e → Rising a rs e
@@ -78,72 +79,105 @@ runs_one p (suc k) a n full clear =
     ∙ cond-true (eqb (a + 1) (suc a)) ((a, suc (suc k)) ∷ rest) ((a, 1) ∷ (a + 1, suc k) ∷ rest) (eq-eqb (a + 1) (suc a) (omega arith))
     ∙ ap (λ z. (a, suc (suc k)) ∷ runs_from p z n) (omega arith)
 
-module _ (marks : List Bool) (at : ℕ) where
-  -- how many lines the walk has still before it
-  left : ℕ
-  left = length marks - at
+-- the runs' lengths, summed
+pub lines_summed : (rs : List Run) → length (lines_of (map run_of rs)) ≡ sum_by (λ (r : Run). r.length) rs
+lines_summed [] = refl
+lines_summed (r ∷ rs) =
+    length-append (range_with_len r.offset r.length) (lines_of (map run_of rs))
+    ∙ ap₂ ◌+◌ (length-range_with_len r.offset r.length) (lines_summed rs)
+    ∙ sym (sum_by-cons (λ (r : Run). r.length) r rs)
 
-  -- clear lines up to the end
-  pub none_left : Skips marks at false (length marks) → runs_from (marked marks) at (length marks - at) ≡ []
-  none_left s =
-      ap (runs_from (marked marks) at) (let e : length marks - at ≡ length marks - at + 0 = omega arith in e)
-      ∙ runs_past (marked marks) (length marks - at) at 0 (λ j g h. s.all j g (omega arith))
+-- marks that are alike, from a line on
+module _ (marks : List Bool) (at : ℕ) (inside : at ≤ length marks) (what : Bool) (n : ℕ) (s : Leads (drop at marks) what n) where
+  pub still_inside : at + n ≤ length marks
+  still_inside = omega (arith, length-drop at marks, s.within)
 
-  -- where the marks that are passed end before the lines do, the other mark stands
-  turned : (start : ℕ) → start < length marks → Skips marks at false start → get_or marks start false ≡ true
-  turned start h s = elim (cases_Bool (get_or marks start false)) [ inl e ↦ e | inr e ↦ absurd (s.stop h e) ]
+  alike : (k : ℕ) → at ≤ k → k < at + n → get_or marks k false ≡ what
+  alike k a b =
+      ap (λ (z : ℕ). get_or marks z false) (let e : k ≡ at + (k - at) = omega arith in e)
+      ∙ sym (get_or-drop at marks (k - at) false) ∙ s.all (k - at) (omega arith)
 
-  module _ (start end : ℕ) (within : start < length marks) (s : Skips marks at false start) (t : Skips marks start true end) where
-    pub run_grows : start < end
-    run_grows = elim (cases_lt start end) [
+  other : at + n < length marks → get_or marks (at + n) false ≡ what → ⊥
+  other h e = s.stop (omega (arith, length-drop at marks)) (get_or-drop at marks n false ∙ e)
+
+module _ (marks : List Bool) where
+  -- clear lines are passed over
+  pub past_clear : (at n : ℕ) → at ≤ length marks → Leads (drop at marks) false n
+      → runs_from (marked marks) at (length marks - at) ≡ runs_from (marked marks) (at + n) (length marks - (at + n))
+  past_clear at n h s =
+      let inside = still_inside marks at h false n s in
+      ap (runs_from (marked marks) at) (let e : length marks - at ≡ n + (length marks - (at + n)) = omega arith in e)
+      ∙ runs_past (marked marks) n at (length marks - (at + n)) (alike marks at h false n s)
+
+  -- and behind them a marked one stands
+  pub turned : (at n : ℕ) → at ≤ length marks → Leads (drop at marks) false n → at + n < length marks → get_or marks (at + n) false ≡ true
+  turned at n h s l = elim (cases_Bool (get_or marks (at + n) false)) [ inl e ↦ e | inr e ↦ absurd (other marks at h false n s l e) ]
+
+  module _ (at n : ℕ) (within : at < length marks) (begins : get_or marks at false ≡ true) (t : Leads (drop at marks) true n) where
+    inside : at ≤ length marks
+    inside = omega arith
+
+    pub run_grows : 0 < n
+    run_grows = elim (cases_lt 0 n) [
       | inl l ↦ l
       | inr l ↦
-          let e : end ≡ start = omega (arith, t.ahead) in
-          absurd (t.stop (omega arith) (ap (λ (k : ℕ). get_or marks k false) e ∙ turned start within s))
+          let e : at + n ≡ at = omega arith in
+          absurd (other marks at inside true n t (omega arith) (ap (λ (k : ℕ). get_or marks k false) e ∙ begins))
     ]
 
     -- a run does not begin right behind a run
-    pub gap_grows : (at < length marks → get_or marks at false ≡ true → ⊥) → at < start
-    gap_grows clear = elim (cases_lt at start) [
+    pub gap_grows : (m : ℕ) → Leads (drop (at + n) marks) false m → at + n + m < length marks → 0 < m
+    gap_grows m s h = elim (cases_lt 0 m) [
       | inl l ↦ l
       | inr l ↦
-          let e : at ≡ start = omega (arith, s.ahead) in
-          absurd (clear (omega arith) (ap (λ (k : ℕ). get_or marks k false) e ∙ turned start within s))
+          let e : at + n ≡ at + n + m = omega arith in
+          absurd (other marks at inside true n t (omega arith)
+          (ap (λ (k : ℕ). get_or marks k false) e ∙ turned (at + n) m (still_inside marks at inside true n t) s h))
     ]
 
-    pub next_run : runs_from (marked marks) at (length marks - at) ≡ (start, end - start) ∷ runs_from (marked marks) end (length marks - end)
+    pub next_run : runs_from (marked marks) at (length marks - at) ≡ (at, n) ∷ runs_from (marked marks) (at + n) (length marks - (at + n))
     next_run =
         let p = marked marks in
         let m = length marks in
+        let k : ℕ = n - 1 in
+        let l = still_inside marks at inside true n t in
         let grows = run_grows in
-        let k : ℕ = end - start - 1 in
-        let ahead = s.ahead in
-        let inside = t.within in
-        let e1 : end - start ≡ suc k = omega arith in
-        ap (runs_from p at) (let e : m - at ≡ start - at + (suc k + (m - end)) = omega arith in e)
-        ∙ runs_past p (start - at) at (suc k + (m - end)) (λ j g h. s.all j g (omega arith))
-        ∙ ap (λ z. runs_from p z (suc k + (m - end))) (let e : at + (start - at) ≡ start = omega arith in e)
-        ∙ runs_one p k start (m - end) (λ j g h. t.all j g (omega arith)) (λ h. elim (cases_Bool (p (start + suc k))) [
+        let e : n ≡ suc k = omega arith in
+        ap (runs_from p at) (let f : m - at ≡ suc k + (m - (at + n)) = omega arith in f)
+        ∙ runs_one p k at (m - (at + n)) (λ j g h. alike marks at inside true n t j g (omega arith)) (λ h. elim (cases_Bool (p (at + suc k))) [
           | inr f ↦ f
-          | inl f ↦ absurd (t.stop (omega arith) (ap (λ (z : ℕ). get_or marks z false) (let e : end ≡ start + suc k = omega arith in e) ∙ f))
+          | inl f ↦ absurd (other marks at inside true n t (omega arith) (ap (λ (z : ℕ). get_or marks (at + z) false) e ∙ f))
         ])
-        ∙ ap₂ (λ x y. (start, x) ∷ runs_from p y (m - end)) (sym e1) (let e : start + suc k ≡ end = omega arith in e)
+        ∙ ap (λ z. (at, z) ∷ runs_from p (at + z) (m - (at + n))) (sym e)
 
--- one run more in the buffer
-pub written_more : (rs : List Run) (n a k : ℕ) (more whole : List (ℕ × ℕ)) → n < length rs → map run_of (take n rs) ++ ((a, k) ∷ more) ≡ whole
-    → map run_of (take (n + 1) (set rs n (record { offset = a; length = k }))) ++ more ≡ whole
-written_more rs n a k more whole h e =
-    let r : Run = record { offset = a; length = k } in
-    ap (λ zs. map run_of zs ++ more) (take_more_set rs n r h)
-    ∙ ap (λ zs. zs ++ more) (map-append run_of (take n rs) (r ∷ []))
-    ∙ append_assoc (map run_of (take n rs)) ((a, k) ∷ []) more
-    ∙ e
+-- where the walk begins
+pub begins_at : (marks : List Bool) (n : ℕ) → Leads marks false n
+    → (n ≤ length marks) × (n < length marks → get_or marks n false ≡ true)
+    × (runs_from (marked marks) n (length marks - n) ≡ runs_from (marked marks) 0 (length marks))
+begins_at marks n s =
+    let h : 0 ≤ length marks = omega arith in
+    let whole : length marks - 0 ≡ length marks = omega arith in
+    subst
+    (λ k. (k ≤ length marks) × (k < length marks → get_or marks k false ≡ true) × (runs_from (marked marks) k (length marks - k) ≡ runs_from (marked marks) 0 (length marks)))
+    (zero-add n)
+    (still_inside marks 0 h false n s, turned marks 0 n h s, sym (past_clear marks 0 n h s) ∙ ap (runs_from (marked marks) 0) whole)
 
-pub lines_more : (a k : ℕ) (rs : List (ℕ × ℕ)) → length (lines_of ((a, k) ∷ rs)) ≡ k + length (lines_of rs)
-lines_more a k rs = length-append (range_with_len a k) (lines_of rs) ∙ ap (λ z. z + length (lines_of rs)) (length-range_with_len a k)
+-- one turn of the walk: a run is written down, and the clear lines behind it are passed over
+pub run_written : (marks : List Bool) (at n m : ℕ) (was is : List Run) (all : List (ℕ × ℕ)) → at < length marks → get_or marks at false ≡ true
+    → Leads (drop at marks) true n → Leads (drop (at + n) marks) false m → is ≡ was ++ record { offset = at; length = n } ∷ []
+    → map run_of was ++ runs_from (marked marks) at (length marks - at) ≡ all
+    → map run_of is ++ runs_from (marked marks) (at + n + m) (length marks - (at + n + m)) ≡ all
+run_written marks at n m was is all h b t s e f =
+    let r : Run = record { offset = at; length = n } in
+    let rest = runs_from (marked marks) (at + n + m) (length marks - (at + n + m)) in
+    let l : at ≤ length marks = omega arith in
+    ap (λ zs. map run_of zs ++ rest) e
+    ∙ ap (λ zs. zs ++ rest) (map-append run_of was (r ∷ []))
+    ∙ append_assoc (map run_of was) ((at, n) ∷ []) rest
+    ∙ ap (λ zs. map run_of was ++ ((at, n) ∷ zs)) (sym (past_clear marks (at + n) m (still_inside marks at l true n t) s))
+    ∙ ap (λ zs. map run_of was ++ zs) (sym (next_run marks at n h b t))
+    ∙ f
 
 -- what is marked is what the list names
-pub found_as : (p q : ℕ → Bool) (m n : ℕ) (rs : List Run) (found : Found) → m ≡ n → ((k : ℕ) → k < m → p k ≡ q k) → RunsFound p m rs found → RunsFound q n rs found
-found_as p q m n rs found e same s =
-    let f : runs_from p 0 m ≡ runs_from q 0 n = runs_same p q m 0 (λ k a b. same k (omega arith)) ∙ ap (runs_from q 0) e in
-    record { within = s.within; runs = s.runs ∙ f; lines = s.lines ∙ ap (λ zs. length (lines_of zs)) f }
+pub found_as : (p q : ℕ → Bool) (m n : ℕ) → m ≡ n → ((k : ℕ) → k < m → p k ≡ q k) → runs_from p 0 m ≡ runs_from q 0 n
+found_as p q m n e same = runs_same p q m 0 (λ k a b. same k (omega arith)) ∙ ap (runs_from q 0) e

@@ -1,7 +1,9 @@
 -- The cells of runs of lines, and what saving them and closing up behind them leaves. A line has `width` cells side by
 -- side; the lines lie one behind the other, in one group or in several of `size` cells each.
-use Rattle.std.specs.Prelude.{◌≡◌, ℕ, ◌+◌, ◌-◌, ◌*◌, ◌<◌, ◌≤◌, List, [], ◌∷◌, ◌++◌, map, length, take, drop}
+use Rattle.std.specs.Prelude.{◌≡◌, ℕ, ◌+◌, ◌-◌, ◌*◌, ◌≤◌, List, [], ◌∷◌, ◌++◌, map, length, take, drop}
 use Rattle.std.specs.List.{range_with_len, flat_map}
+use Rattle.layout.specs.declared.side.Side.{Side}
+use Rattle.layout.specs.declared.side.Side.TheVariants.{Rows, Columns}
 use Rattle.journal.specs.declared.parts.Run.{Run}
 use Rattle.journal.specs.View.{run_of}
 use Rattle.listed.specs.declared.cutting.Lines.{Lines}
@@ -19,9 +21,14 @@ taken width xs rs = flat_map (λ r. take (r.1 * width) (drop (r.0 * width) xs)) 
 abbrev pub taken_of : {A : Type 0} → ℕ → ℕ → ℕ → ℕ → List A → List (ℕ × ℕ) → List A
 taken_of width size g n xs rs = flat_map (λ j. taken width (drop (j * size) xs) rs) (range_with_len g n)
 
--- the lines are there
+-- how the lines of a side of a table lie
+abbrev pub lines_of_side : Side → (rows columns : ℕ) → Lines
+lines_of_side Rows rows columns = record { width = 1; count = rows; groups = columns }
+lines_of_side Columns rows columns = record { width = rows; count = columns; groups = 1 }
+
+-- the lines are there, and few
 abbrev pub Lying : {A : Type 0} → Lines → List A → Type 0
-Lying lines xs = (0 < lines.groups) × (lines.groups * (lines.count * lines.width) ≤ length xs)
+Lying lines xs = (lines.count * lines.width ≤ 65536) × (lines.groups * (lines.count * lines.width) ≤ length xs)
 
 -- the cells of the lines of the runs, and those of the lines between them
 abbrev pub cut : {A : Type 0} → Lines → List A → List Run → List A

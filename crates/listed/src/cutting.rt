@@ -1,49 +1,59 @@
 // Runs of lines saved and taken out: one text for rows and for columns.
-ghost use Rattle.std.specs.Prelude.{◌≡◌, ◌+◌, ◌*◌, ◌≤◌, map, length, drop};
+ghost use Rattle.std.specs.Prelude.{◌≡◌, ◌+◌, ◌*◌, ◌≤◌, ◌++◌, map, length, drop};
+ghost use Rattle.moves.specs.Blocks.{lines_in};
+ghost use Rattle.moves.specs.Stores.{items, room};
 ghost use Rattle.journal.specs.View.{run_of};
 ghost use Rattle.listed.specs.Runs.{Rising};
-ghost use Rattle.listed.specs.Cuts.{Behind, Lying, between, cut, spared, taken};
+ghost use Rattle.listed.specs.Cuts.{Behind, Lying, between, cut, lines_of_side, spared, taken};
 
 use journal::parts::Run;
-use moves::blocks::{copy_block, slide_left};
+use layout::side::Side;
+use moves::blocks::slide;
+use moves::store::Store;
+use moves::vec_storage::Table;
 
 // How the lines of a side lie in the cells: `width` cells to a line, `count` lines one behind the other, and that
 // `groups` times. A row has one cell in each column; a column is all its cells.
 #[derive(Clone, Copy)]
-pub struct Lines {
-    pub width: usize,
-    pub count: usize,
-    pub groups: usize,
+struct Lines {
+    width: usize,
+    count: usize,
+    groups: usize,
 }
 
-// Copies the runs of one group to another buffer, from `top` on; says where they end there.
-fn save_group<T: Copy>(
-    cells: &[T],
-    from: usize,
-    lines: Lines,
-    runs: &[Run],
-    saved: &mut [T],
-    top: usize,
-) -> usize
-    requires rising { Rising 0 (map run_of runs.now) lines.count }
-    requires inside { from + lines.count * lines.width ≤ length cells.now }
-    requires room { top + length (taken lines.width (drop from cells.now) (map run_of runs.now)) ≤ length saved.old }
-    ensures ends { result ≡ top + length (taken lines.width (drop from cells.now) (map run_of runs.now)) }
-    ensures put { Behind saved.old saved.new top (taken lines.width (drop from cells.now) (map run_of runs.now)) }
-{
-    let mut to = top;
-    for run in runs {
-        let len = run.length as usize * lines.width;
-        copy_block(
-            cells,
-            from + run.offset as usize * lines.width,
-            saved,
-            to,
-            len,
-        );
-        to += len;
+impl Lines {
+    fn of<T>(table: &Table<'_, T>, side: Side) -> Lines
+        ensures { result ≡ lines_of_side side table.now.rows table.now.columns }
+    {
+        let (rows, columns) = (table.rows as usize, table.columns as usize);
+        match side {
+            Side::Rows => Lines {
+                width: 1,
+                count: rows,
+                groups: columns,
+            },
+            Side::Columns => Lines {
+                width: rows,
+                count: columns,
+                groups: 1,
+            },
+        }
     }
-    to
+}
+
+// Copies the runs of one group to a store; its first line lies at the start of the cells.
+fn save_group<T: Copy>(cells: &[T], lines: Lines, runs: &[Run], saved: &mut Store<'_, T>)
+    requires rising { Rising 0 (map run_of runs.now) lines.count }
+    requires inside { lines.count * lines.width ≤ length cells.now }
+    requires fits { length (items saved.old) + length (taken lines.width cells.now (map run_of runs.now)) ≤ room saved.old }
+    ensures saved { items saved.new ≡ items saved.old ++ taken lines.width cells.now (map run_of runs.now) }
+    ensures same { room saved.new ≡ room saved.old }
+{
+    for run in runs {
+        let from = run.offset as usize * lines.width;
+        let len = run.length as usize * lines.width;
+        saved.extend_from_slice(&cells[from..from + len]);
+    }
 }
 
 // Moves what lies between the runs of one group together, from `top` on; says where it ends.
@@ -67,26 +77,26 @@ fn close_group<T: Copy>(
     for run in runs {
         let start = run.offset as usize;
         let len = (start - at) * lines.width;
-        slide_left(cells, from + at * lines.width, to, len);
+        slide(cells, from + at * lines.width, to, len);
         to += len;
         at = start + run.length as usize;
     }
     let len = (lines.count - at) * lines.width;
-    slide_left(cells, from + at * lines.width, to, len);
+    slide(cells, from + at * lines.width, to, len);
     to + len
 }
 
-// Copies the runs to another buffer, group by group.
-fn save_runs<T: Copy>(cells: &[T], lines: Lines, runs: &[Run], saved: &mut [T], top: usize)
+// Copies the runs to a store, group by group.
+fn save_runs<T: Copy>(cells: &[T], lines: Lines, runs: &[Run], saved: &mut Store<'_, T>)
     requires rising { Rising 0 (map run_of runs.now) lines.count }
     requires inside { Lying lines cells.now }
-    requires room { top + length (cut lines cells.now runs.now) ≤ length saved.old }
-    ensures { Behind saved.old saved.new top (cut lines cells.now runs.now) }
+    requires fits { length (items saved.old) + length (cut lines cells.now runs.now) ≤ room saved.old }
+    ensures saved { items saved.new ≡ items saved.old ++ cut lines cells.now runs.now }
+    ensures same { room saved.new ≡ room saved.old }
 {
     let size = lines.count * lines.width;
-    let mut to = top;
     for g in 0..lines.groups {
-        to = save_group(cells, g * size, lines, runs, saved, to);
+        save_group(&cells[g * size..], lines, runs, saved);
     }
 }
 
@@ -103,14 +113,22 @@ fn close_runs<T: Copy>(cells: &mut [T], lines: Lines, runs: &[Run])
     }
 }
 
-// Saves the runs from `top` on and takes them out.
-pub fn cut_runs<T: Copy>(cells: &mut [T], lines: Lines, runs: &[Run], saved: &mut [T], top: usize)
-    requires rising { Rising 0 (map run_of runs.now) lines.count }
-    requires inside { Lying lines cells.old }
-    requires room { top + length (cut lines cells.old runs.now) ≤ length saved.old }
-    ensures lost { Behind saved.old saved.new top (cut lines cells.old runs.now) }
-    ensures left { Behind cells.old cells.new 0 (spared lines cells.old runs.now) }
+// Saves the runs and takes them out; the shape is left to the caller.
+pub fn cut_runs<T: Copy>(
+    table: &mut Table<'_, T>,
+    side: Side,
+    runs: &[Run],
+    saved: &mut Store<'_, T>,
+)
+    requires rising { Rising 0 (map run_of runs.now) (lines_in side table.old.rows table.old.columns) }
+    requires fits { length (items saved.old) + length (cut (lines_of_side side table.old.rows table.old.columns) table.old.cells.now runs.now) ≤ room saved.old }
+    ensures lost { items saved.new ≡ items saved.old ++ cut (lines_of_side side table.old.rows table.old.columns) table.old.cells.now runs.now }
+    ensures same { room saved.new ≡ room saved.old }
+    ensures left { Behind table.old.cells.now table.new.cells.now 0 (spared (lines_of_side side table.old.rows table.old.columns) table.old.cells.now runs.now) }
+    ensures shape { (table.new.rows ≡ table.old.rows) × (table.new.columns ≡ table.old.columns) }
 {
-    save_runs(cells, lines, runs, saved, top);
+    let lines = Lines::of(table, side);
+    let cells = &mut *table.cells;
+    save_runs(cells, lines, runs, saved);
     close_runs(cells, lines, runs);
 }

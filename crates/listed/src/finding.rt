@@ -1,16 +1,13 @@
 // The runs of the lines that a list names.
-ghost use Rattle.std.specs.Prelude.{◌≡◌, ℕ, ◌*◌, ◌<◌, ◌≤◌, false, length, slice_index_or};
+ghost use Rattle.std.specs.Prelude.{◌≡◌, ℕ, ◌+◌, ◌*◌, ◌<◌, ◌≤◌, ◌++◌, false, map, length, slice_index_or, sum_by};
+ghost use Rattle.moves.specs.Stores.{items, room};
 ghost use Rattle.model.specs.Sheet.{listed};
-ghost use Rattle.listed.specs.Runs.{RunsFound, Skips, marked};
+ghost use Rattle.model.specs.Journal.{runs_from};
+ghost use Rattle.journal.specs.View.{run_of};
+ghost use Rattle.listed.specs.Runs.{Leads, marked};
 
 use journal::parts::Run;
-
-// How many runs there are, and how many lines they have together.
-#[derive(Clone, Copy)]
-pub struct Found {
-    pub runs: usize,
-    pub lines: usize,
-}
+use moves::store::Store;
 
 // Marks the lines that the list names; an index beyond the marks is passed over.
 fn mark_listed(list: &[u32], marks: &mut [bool])
@@ -25,51 +22,48 @@ fn mark_listed(list: &[u32], marks: &mut [bool])
     }
 }
 
-// The first line from `from` on whose mark is not `what`, or the end.
-fn skip(marks: &[bool], from: usize, what: bool) -> usize
-    requires { from ≤ length marks.now }
-    ensures { Skips marks.now from what result }
+// How many marks are `what`, up to the first that is not.
+fn leading(marks: &[bool], what: bool) -> usize
+    ensures { Leads marks.now what result }
 {
-    let mut r = from;
-    while r < marks.len() {
-        if marks[r] != what {
-            return r;
-        }
-        r += 1;
-    }
-    r
+    marks.iter().take_while(|mark| **mark == what).count()
 }
 
-// Writes down the runs of marked lines.
-fn find_runs(marks: &[bool], runs: &mut [Run]) -> Found
-    requires { (length marks.now ≤ 2 * length runs.old) × (length marks.now ≤ 4096) }
-    ensures { RunsFound (marked marks.now) (length marks.now) runs.new result }
+// Writes the runs of marked lines behind the others.
+fn find_runs(marks: &[bool], runs: &mut Store<'_, Run>)
+    requires { (length marks.now + 2 * length (items runs.old) ≤ 2 * room runs.old) × (length marks.now ≤ 4096) }
+    ensures found { map run_of (items runs.new) ≡ map run_of (items runs.old) ++ runs_from (marked marks.now) 0 (length marks.now) }
+    ensures same { room runs.new ≡ room runs.old }
 {
-    let mut found = Found { runs: 0, lines: 0 };
-    let mut at = 0;
-    loop {
-        let start = skip(marks, at, false);
-        if start == marks.len() {
-            return found;
-        }
-        let end = skip(marks, start, true);
-        runs[found.runs] = Run {
-            offset: start as u32,
-            length: (end - start) as u32,
-        };
-        found.runs += 1;
-        found.lines += end - start;
-        at = end;
+    // A turn goes over a whole run, so this is no `for` over the marks.
+    let mut at = leading(marks, false);
+    while at < marks.len() {
+        let count = leading(&marks[at..], true);
+        runs.push(Run {
+            offset: at as u32,
+            length: count as u32,
+        });
+        let end = at + count;
+        at = end + leading(&marks[end..], false);
     }
 }
 
-// Writes down the runs of those of `count` lines that the list names, each once.
-pub fn find_listed(list: &[u32], count: usize, runs: &mut [Run]) -> Found
-    requires { (count ≤ 2 * length runs.old) × (count ≤ 4096) }
-    ensures { RunsFound (listed list.now) count runs.new result }
+// Writes the runs of those of `count` lines that the list names, each once, behind the others.
+pub fn find_listed(list: &[u32], count: usize, runs: &mut Store<'_, Run>)
+    requires { (count + 2 * length (items runs.old) ≤ 2 * room runs.old) × (count ≤ 4096) }
+    ensures found { map run_of (items runs.new) ≡ map run_of (items runs.old) ++ runs_from (listed list.now) 0 count }
+    ensures same { room runs.new ≡ room runs.old }
 {
     let mut table = [false; 4096];
-    let marks = &mut table[0..count];
+    let marks = &mut table[..count];
     mark_listed(list, marks);
-    find_runs(marks, runs)
+    find_runs(marks, runs);
+}
+
+// How many lines the runs have together.
+pub fn count_lines(runs: &[Run]) -> u32
+    requires { sum_by (λ run. run.length) runs.now ≤ 4096 }
+    ensures { result ≡ sum_by (λ run. run.length) runs.now }
+{
+    runs.iter().map(|run| run.length).sum()
 }

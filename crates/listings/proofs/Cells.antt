@@ -1,25 +1,21 @@
 -- Listed lines taken out, from runs of cells to the model's tables.
-use Rattle.std.proofs.Common.{◌≡◌, ℕ, zero, suc, ◌+◌, ◌-◌, ◌*◌, ◌<◌, ◌≤◌, Bool, true, false, cond, not, eqb, List, [], ◌∷◌, ◌++◌, length, take, drop, filter, sym, refl, ap, ◌∙◌, ap₂, append-nil, suc-mul, add-mul, one-mul, zero-mul, mul-one, arith}
+use Rattle.std.proofs.Common.{◌≡◌, ℕ, zero, suc, ◌+◌, ◌-◌, ◌*◌, ◌<◌, Bool, true, false, cond, not, eqb, List, [], ◌∷◌, ◌++◌, take, drop, filter, sym, refl, ap, ◌∙◌, ap₂, append-nil, suc-mul, add-mul, one-mul, zero-mul, mul-one, arith}
 use Rattle.std.specs.List.{range_with_len, flat_map}
-use Rattle.std.proofs.lemmas.List.{drop-drop, take_all}
+use Rattle.std.proofs.lemmas.List.{drop-drop}
 use Rattle.std.proofs.lemmas.Bool.{eqb-true}
-use Rattle.moves.specs.Slides.{Copied}
-use Rattle.model.specs.Sheet.{listed, row, column, remove_listed, Table, cell_at, changed}
+use Rattle.model.specs.Sheet.{listed, remove_listed, Table, cell_at, changed}
 use Rattle.model.specs.Journal.{begun, runs_from, lines_of, lost_of}
 use Rattle.model.proofs.Grids.{one_column, joined-++, take_then, all_counting}
 use Rattle.model.proofs.Edits.{lines_runs}
 use Rattle.model.proofs.Joins.{cell_of_lem, joined_same}
 use Rattle.model.proofs.Listed.{selected, kept, all_below_lem, rows_listed_cells, rows_listed_lost, columns_listed_cells, columns_listed_lost}
 use Rattle.listed.specs.Runs.{Rising}
-use Rattle.listed.specs.Cuts.{Behind, between, taken, taken_of}
+use Rattle.layout.specs.declared.side.Side.{Side}
+use Rattle.layout.specs.declared.side.Side.TheVariants.{Rows, Columns}
+use Rattle.moves.specs.Blocks.{lines_in}
+use Rattle.journal.specs.View.{side_of}
+use Rattle.listed.specs.Cuts.{between, lines_of_side, taken, taken_of}
 use Rattle.listed.proofs.Walks.{runs_rising}
-use Rattle.listed.proofs.Blocks.{copied_behind}
-
-pub copied_all : {A : Type 0} (src xs ys : List A) (to : ℕ) → to + length src ≤ length xs → Copied src xs ys 0 to (length src) → Behind xs ys to src
-copied_all src xs ys to h s = record {
-  long = s.long;
-  put = copied_behind src xs ys 0 to (length src) (omega arith) h s ∙ ap (λ z. take to xs ++ z) (take_all (length src) src (omega arith));
-}
 
 -- what lies between the runs are the lines that do not pass
 
@@ -78,6 +74,9 @@ by_columns t ks [] = refl
 by_columns t ks (l ∷ ls) = one_column (λ (q : ℕ × ℕ). cell_at t q.0 q.1) ks l ls ∙ ap (λ z. flat_map (λ r. cell_at t r l) ks ++ z) (by_columns t ks ls)
 
 module _ {A : Type 0} (t : Table A) (xs : List A) (lies : t.cells ≡ take (t.rows * t.columns) xs) where
+  abbrev size_of : Side → ℕ
+  size_of s = (lines_of_side s t.rows t.columns).count * (lines_of_side s t.rows t.columns).width
+
   -- a cell of a column, as a line of one cell
   one_cell : (size r c : ℕ) → size ≡ t.rows → r < t.rows → c < t.columns → cell_at t r c ≡ take 1 (drop (r * 1) (drop (c * size) xs))
   one_cell size r c e hr hc =
@@ -116,17 +115,16 @@ module _ {A : Type 0} (t : Table A) (xs : List A) (lies : t.cells ≡ take (t.ro
         ∙ ap (λ k. taken t.rows (drop k xs) rs) (sym (zero-mul size))
         ∙ sym (append-nil (taken t.rows (drop (0 * size) xs) rs))
 
-  module _ (ks : List ℕ) (size : ℕ) where
-    pub rows_lost : size ≡ t.rows → taken_of 1 size 0 t.columns xs (runs_from (listed ks) 0 t.rows) ≡ lost_of t (remove_listed row ks)
-    rows_lost e = sym (rows_listed_lost t ks ∙ rows_taken (listed ks) size (runs_from (listed ks) 0 t.rows) e (lines_runs (listed ks) 0 t.rows))
+  module _ (ks : List ℕ) where
+    -- the cells that go, and those that are left
+    pub cells_lost : (s : Side) → taken_of (lines_of_side s t.rows t.columns).width (size_of s) 0 (lines_of_side s t.rows t.columns).groups xs (runs_from (listed ks) 0 (lines_in s t.rows t.columns))
+        ≡ lost_of t (remove_listed (side_of s) ks)
+    cells_lost Rows = sym (rows_listed_lost t ks ∙ rows_taken (listed ks) (t.rows * 1) (runs_from (listed ks) 0 t.rows) (mul-one t.rows) (lines_runs (listed ks) 0 t.rows))
+    cells_lost Columns = sym (columns_listed_lost t ks ∙ columns_taken (listed ks) (t.columns * t.rows) (runs_from (listed ks) 0 t.columns) (lines_runs (listed ks) 0 t.columns))
 
-    pub rows_left : size ≡ t.rows → taken_of 1 size 0 t.columns xs (between 0 (runs_from (listed ks) 0 t.rows) t.rows) ≡ (changed t (remove_listed row ks)).cells
-    rows_left e =
-        sym (rows_listed_cells t ks ∙ rows_taken (λ k. not (listed ks k)) size (between 0 (runs_from (listed ks) 0 t.rows) t.rows) e (kept_lines ks t.rows))
-
-    pub columns_lost : taken_of t.rows size 0 1 xs (runs_from (listed ks) 0 t.columns) ≡ lost_of t (remove_listed column ks)
-    columns_lost = sym (columns_listed_lost t ks ∙ columns_taken (listed ks) size (runs_from (listed ks) 0 t.columns) (lines_runs (listed ks) 0 t.columns))
-
-    pub columns_left : taken_of t.rows size 0 1 xs (between 0 (runs_from (listed ks) 0 t.columns) t.columns) ≡ (changed t (remove_listed column ks)).cells
-    columns_left =
-        sym (columns_listed_cells t ks ∙ columns_taken (λ k. not (listed ks k)) size (between 0 (runs_from (listed ks) 0 t.columns) t.columns) (kept_lines ks t.columns))
+    pub cells_left : (s : Side) → taken_of (lines_of_side s t.rows t.columns).width (size_of s) 0 (lines_of_side s t.rows t.columns).groups xs (between 0 (runs_from (listed ks) 0 (lines_in s t.rows t.columns)) (lines_of_side s t.rows t.columns).count)
+        ≡ (changed t (remove_listed (side_of s) ks)).cells
+    cells_left Rows =
+        sym (rows_listed_cells t ks ∙ rows_taken (λ k. not (listed ks k)) (t.rows * 1) (between 0 (runs_from (listed ks) 0 t.rows) t.rows) (mul-one t.rows) (kept_lines ks t.rows))
+    cells_left Columns =
+        sym (columns_listed_cells t ks ∙ columns_taken (λ k. not (listed ks k)) (t.columns * t.rows) (between 0 (runs_from (listed ks) 0 t.columns) t.columns) (kept_lines ks t.columns))

@@ -1,6 +1,5 @@
 -- The questions of a listed removal, the ninth among them.
-use Rattle.std.proofs.Common.{◌≡◌, ℕ, ◌+◌, ◌*◌, Bool, true, false, cond, ◌&&◌, ltb, leb, List, [], ◌∷◌, ◌++◌, length, is_err, Ok, Err, Result, sym, refl, ap, ◌∙◌, subst}
-use Rattle.std.proofs.lemmas.Bool.{both_ways}
+use Rattle.std.proofs.Common.{◌≡◌, ℕ, ◌+◌, ◌*◌, Bool, true, false, cond, ◌&&◌, ltb, leb, List, [], ◌∷◌, ◌++◌, length, Err, sym, refl, ap, ◌∙◌}
 use Rattle.layout.specs.declared.refusal.Refusal.{Refusal}
 use Rattle.layout.specs.Refusals.{number_of}
 use Rattle.model.specs.Sheet.{Change, rows_of, columns_of}
@@ -9,7 +8,7 @@ use Rattle.model.specs.Journal.{Sheet, Answer, done, refused, first_no, verdict,
 use Rattle.model.proofs.Replays.{not_done}
 use Rattle.model.proofs.Listed.{Numbers}
 use Rattle.journal.specs.declared.parts.Parts.{Parts}
-use Rattle.journal.specs.View.{view, table_of, answered}
+use Rattle.journal.specs.View.{view, table_of}
 use Rattle.journal.specs.Asking.{rooms}
 use Rattle.journal.specs.Answering.{Held, Answers}
 use Rattle.journal.proofs.Answering.{refuses}
@@ -53,24 +52,13 @@ verdict_of s ch m n rs l h =
     sym (ap (λ z. F z N K L b2) h.rows ∙ ap (λ z. F m z K L b2) h.columns ∙ ap (λ z. F m n (length z) L b2) h.runs
     ∙ ap (λ z. F m n k z b2) h.lost ∙ ap (λ z. F m n k l z) h.named)
 
-module _ {A : Type 0} (p : Parts A) (ch : Change A) (m n k : ℕ) (rs : List (ℕ × ℕ)) (l : ℕ) (numbers : Numbers (table_of p) ch m n rs l)
-    (count : k ≡ length rs) (r : Result Unit Refusal) (h : Held p) (which : answered r ≡ first_no (rooms (view p) m n k l)) where
-  which_is : answered r ≡ first_no (rooms (view p) m n (length rs) l)
-  which_is = subst (λ z. answered r ≡ first_no (rooms (view p) m n z l)) count which
-
+module _ {A : Type 0} (p : Parts A) (ch : Change A) (m n : ℕ) (rs : List (ℕ × ℕ)) (l : ℕ) (numbers : Numbers (table_of p) ch m n rs l) (h : Held p) where
   -- by one of the questions 3 to 7, whether a column is there or not
-  pub stopped_early : true ≡ is_err r → Answers p p (change ch) r
-  stopped_early e = go r e which_is
-    where
-      go : (r : Result Unit Refusal) → true ≡ is_err r → answered r ≡ first_no (rooms (view p) m n (length rs) l) → Answers p p (change ch) r
-      go (Ok u) e f = absurd (both_ways false refl (sym e))
-      go (Err x) e f = refuses p ch x h (refused_early (rooms (view p) m n (length rs) l) ((9, has_column (table_of p) ch) ∷ []) (number_of x) f ∙ verdict_of (view p) ch m n rs l numbers)
+  pub stopped_early : (e : Refusal) → refused (number_of e) ≡ first_no (rooms (view p) m n (length rs) l) → Answers p p (change ch) (Err e)
+  stopped_early e f =
+      refuses p ch e h (refused_early (rooms (view p) m n (length rs) l) ((9, has_column (table_of p) ch) ∷ []) (number_of e) f ∙ verdict_of (view p) ch m n rs l numbers)
 
   -- by question 9
-  pub columnless : false ≡ is_err r → has_column (table_of p) ch ≡ false → Answers p p (change ch) (Err Refusal.NoColumn)
-  columnless e none =
-      refuses p ch Refusal.NoColumn h (ap (λ b. first_no ((9, b) ∷ [])) (sym none) ∙ passed (rooms (view p) m n (length rs) l) ((9, has_column (table_of p) ch) ∷ []) (went r e which_is) ∙ verdict_of (view p) ch m n rs l numbers)
-    where
-      went : (r : Result Unit Refusal) → false ≡ is_err r → answered r ≡ first_no (rooms (view p) m n (length rs) l) → done ≡ first_no (rooms (view p) m n (length rs) l)
-      went (Ok u) e f = f
-      went (Err x) e f = absurd (both_ways false refl e)
+  pub columnless : done ≡ first_no (rooms (view p) m n (length rs) l) → has_column (table_of p) ch ≡ false → Answers p p (change ch) (Err Refusal.NoColumn)
+  columnless f none =
+      refuses p ch Refusal.NoColumn h (ap (λ b. first_no ((9, b) ∷ [])) (sym none) ∙ passed (rooms (view p) m n (length rs) l) ((9, has_column (table_of p) ch) ∷ []) f ∙ verdict_of (view p) ch m n rs l numbers)

@@ -1,130 +1,126 @@
 -- Runs found and lines taken out, put together to the change that the model has.
-use Rattle.std.proofs.Common.{◌≡◌, ℕ, ◌+◌, ◌-◌, ◌*◌, ◌≤◌, Bool, true, List, ◌++◌, map, length, take, set, sym, refl, ap, ◌∙◌, subst, ap₂, mul_comm, mul-le-mul_left, mul-one, arith}
+use Rattle.std.proofs.Common.{◌≡◌, ℕ, ◌+◌, ◌-◌, ◌*◌, ◌<◌, ◌≤◌, true, false, List, [], ◌∷◌, ◌++◌, map, length, take, sym, refl, ap, ◌∙◌, subst, ap₂, sum_by, arith}
 use mathlib.Core.List.{map-append}
-use Rattle.std.proofs.lemmas.List.{length-map, length-take-le}
-use Rattle.model.specs.Sheet.{listed, row, column, Change, remove_listed, Table, rows_of, columns_of, changed}
-use Rattle.model.specs.Journal as model
-use Rattle.model.specs.Journal.{Right, runs_from, lost_of, named_in}
-use Rattle.model.specs.Reached.{Bounds}
+use Rattle.std.proofs.lemmas.Bool.{le-ltb, lt-ltb}
+use Rattle.std.proofs.lemmas.List.{length-map}
+use Rattle.layout.specs.declared.side.Side.{Side}
+use Rattle.layout.specs.declared.side.Side.TheVariants.{Rows, Columns}
+use Rattle.moves.specs.Blocks.{cells_in, columns_with, lines_in, rows_with}
+use Rattle.moves.specs.Stores.{items}
+use Rattle.model.specs.Sheet.{listed, remove_listed, Table, changed}
+use Rattle.model.specs.Journal.{Answer, Right, first_no, has_column, lines_of, runs_from, lost_of}
 use Rattle.model.proofs.Undo.{right_changed}
-use Rattle.model.proofs.Counting.{Counts}
 use Rattle.model.proofs.Listed.{Numbers, goes, goes_few, rows_listed, columns_listed}
-use Rattle.journal.specs.declared.parts.Note.{Note}
+use Rattle.journal.specs.declared.parts.Note.TheVariants.{ListedRemoval}
 use Rattle.journal.specs.declared.parts.Run.{Run}
 use Rattle.journal.specs.declared.parts.Parts.{Parts}
-use Rattle.journal.specs.View.{view, table_of, saved_of, runs_of, run_of, note_of}
+use Rattle.journal.specs.View.{run_of, runs_of, saved_of, side_of, table_of, view}
 use Rattle.journal.specs.Entering.{entry_for}
 use Rattle.journal.specs.Answering.{Performed}
-use Rattle.journal.proofs.Answering.{cells_fit, reshaped}
-use Rattle.listed.specs.declared.finding.Found.{Found}
-use Rattle.listed.specs.declared.cutting.Lines.{Lines}
-use Rattle.listed.specs.Runs.{RunsFound, Rising}
-use Rattle.listed.specs.Cuts.{between, cut, spared, taken_of}
-use Rattle.listed.proofs.Walks.{runs_rising}
-use Rattle.listings.specs.Cut.{Cut}
-use Rattle.listings.proofs.Cells.{rows_lost, rows_left, columns_lost, columns_left}
+use Rattle.journal.specs.Asking.{rooms}
+use Rattle.journal.proofs.Asking.{asked_as}
+use Rattle.journal.proofs.Answering.{right}
+use Rattle.listed.specs.Runs.{Rising}
+use Rattle.listed.specs.Cuts.{between, cut, lines_of_side, spared, taken_of}
+use Rattle.listed.proofs.Walks.{lines_summed, runs_rising}
+use Rattle.listings.specs.Cut.{Cut, Own}
+use Rattle.listings.proofs.Cells.{cells_left, cells_lost}
 
--- the counts, with the lines that the walk counted
-pub rows_counted : {A : Type 0} (t : Table A) (ks : List ℕ) (g : ℕ) → Right t → g ≡ goes ks t.rows
-    → Numbers t (remove_listed row ks) (t.rows - g) t.columns (runs_from (listed ks) 0 t.rows) (g * t.columns)
-rows_counted t ks g right e =
-    subst (λ z. Numbers t (remove_listed row ks) (t.rows - z) t.columns (runs_from (listed ks) 0 t.rows) (z * t.columns)) (sym e) (rows_listed t ks right)
+-- the change in numbers, with the lines that were counted
+pub numbers : {A : Type 0} (t : Table A) (ks : List ℕ) (s : Side) (gone : ℕ) → Right t → gone ≡ goes ks (lines_in s t.rows t.columns)
+    → Numbers t (remove_listed (side_of s) ks) (rows_with s (lines_in s t.rows t.columns - gone) t.rows) (columns_with s (lines_in s t.rows t.columns - gone) t.columns)
+    (runs_from (listed ks) 0 (lines_in s t.rows t.columns)) (cells_in s gone t.rows t.columns)
+numbers t ks s gone right e =
+    subst
+    (λ k. Numbers t (remove_listed (side_of s) ks) (rows_with s (lines_in s t.rows t.columns - k) t.rows) (columns_with s (lines_in s t.rows t.columns - k) t.columns)
+    (runs_from (listed ks) 0 (lines_in s t.rows t.columns)) (cells_in s k t.rows t.columns))
+    (sym e) (go s)
+  where
+    go : (s : Side) → Numbers t (remove_listed (side_of s) ks)
+        (rows_with s (lines_in s t.rows t.columns - goes ks (lines_in s t.rows t.columns)) t.rows) (columns_with s (lines_in s t.rows t.columns - goes ks (lines_in s t.rows t.columns)) t.columns)
+        (runs_from (listed ks) 0 (lines_in s t.rows t.columns)) (cells_in s (goes ks (lines_in s t.rows t.columns)) t.rows t.columns)
+    go Rows = rows_listed t ks right
+    go Columns = let h = columns_listed t ks right in record { named = h.named; rows = h.rows; columns = h.columns; runs = h.runs; lost = h.lost }
 
-pub columns_counted : {A : Type 0} (t : Table A) (ks : List ℕ) (g : ℕ) → Right t → g ≡ goes ks t.columns
-    → Counts t (remove_listed column ks) t.rows (t.columns - g) (runs_from (listed ks) 0 t.columns) (t.rows * g)
-columns_counted t ks g right e =
-    subst (λ z. Counts t (remove_listed column ks) t.rows (t.columns - z) (runs_from (listed ks) 0 t.columns) (t.rows * z)) (sym e) (columns_listed t ks right)
+pub lines_few : {A : Type 0} (p : Parts A) (s : Side) → lines_in s p.table.rows p.table.columns ≤ 4096
+lines_few p Rows = p.table.few_rows
+lines_few p Columns = p.table.few_columns
 
-module _ (p : ℕ → Bool) (count : ℕ) (rs : List Run) (found : Found) (h : RunsFound p count rs found) where
-  pub found_count : found.runs ≡ length (runs_from p 0 count)
-  found_count =
-      sym (length-take-le found.runs rs h.within) ∙ sym (length-map (take found.runs rs) run_of) ∙ ap length h.runs
+-- question 9: rows leave only where a column is there
+pub no_column : {A : Type 0} (t : Table A) (ks : List ℕ) (s : Side) → s ≡ Rows → t.columns ≡ 0 → has_column t (remove_listed (side_of s) ks) ≡ false
+no_column t ks s e none = ap (λ z. has_column t (remove_listed (side_of z) ks)) e ∙ le-ltb 0 t.columns (omega arith)
 
-  -- the runs as they are handed on
-  pub found_own : map run_of (take (found.runs - 0) rs) ≡ runs_from p 0 count
-  found_own = ap (λ k. map run_of (take k rs)) (let e : found.runs - 0 ≡ found.runs = omega arith in e) ∙ h.runs
+pub some_column : {A : Type 0} (t : Table A) (ks : List ℕ) (s : Side) → (s ≡ Rows → 0 < t.columns) → has_column t (remove_listed (side_of s) ks) ≡ true
+some_column t ks Rows h = lt-ltb 0 t.columns (h refl)
+some_column t ks Columns h = refl
 
-  pub found_long : length (take (found.runs - 0) rs) ≡ length (runs_from p 0 count)
-  found_long = sym (length-map (take (found.runs - 0) rs) run_of) ∙ ap length found_own
+-- the runs as they are handed on
+pub found_own : (ks : List ℕ) (k m : ℕ) (was is own : List Run) → was ≡ [] → k ≡ m → map run_of is ≡ map run_of was ++ runs_from (listed ks) 0 k → own ≡ is
+    → map run_of own ≡ runs_from (listed ks) 0 m
+found_own ks k m was is own none e found same =
+    ap (map run_of) same ∙ found ∙ ap (λ zs. map run_of zs ++ runs_from (listed ks) 0 k) none ∙ ap (runs_from (listed ks) 0) e
 
-  pub found_rises : Rising 0 (map run_of (take (found.runs - 0) rs)) count
-  found_rises =
-      subst (λ zs. Rising 0 zs count) (sym found_own) (subst (λ k. Rising 0 (runs_from p 0 count) k) (let e : 0 + count ≡ count = omega arith in e) (runs_rising p count 0))
+module _ (ks : List ℕ) (m : ℕ) (own : List Run) (e : map run_of own ≡ runs_from (listed ks) 0 m) where
+  own_many : length own ≡ length (runs_from (listed ks) 0 m)
+  own_many = sym (length-map own run_of) ∙ ap length e
 
--- lines taken out, and the new shape
-pub performed_cut :
-    {A : Type 0} (p q : Parts A) (lines : Lines) (own : List Run) (note : Note) (ch : Change A) (m n m' n' l : ℕ) (rs : List (ℕ × ℕ))
-    → Cut p q lines own note l → note_of note ≡ model.note_of ch → map run_of own ≡ rs → m' ≡ m → n' ≡ n
-    → spared lines p.cells.now own ≡ (changed (table_of p) ch).cells → length (changed (table_of p) ch).cells ≡ m * n
-    → cut lines p.cells.now own ≡ lost_of (table_of p) ch → length (lost_of (table_of p) ch) ≡ l
-    → Performed p (reshaped q m' n') ch m n rs l
-performed_cut p q lines own note ch m n m' n' l rs c same_note er em en left left_long lost lost_long =
-    let many : length rs ≡ length own = ap length (sym er) ∙ length-map own run_of in
-    let e1 : m * n ≡ 0 + length (spared lines p.cells.now own) = (let z = ap length left in omega arith) in
-    let e2 : l ≡ length (cut lines p.cells.now own) = sym lost_long ∙ ap length (sym lost) in
-    record {
-      note = note;
-      noted = same_note;
-      rows = em;
-      columns = en;
-      cells = ap (λ k. take k q.cells.now) e1 ∙ c.cells.put ∙ left;
-      saved = ap (λ k. take (p.tops.saved + k) q.saved.now) e2 ∙ c.saved.put ∙ ap (λ zs. saved_of p ++ zs) lost;
-      runs =
-          ap (λ k. map run_of (take (p.tops.runs + k) q.runs.now)) many
-          ∙ ap (map run_of) c.runs.put ∙ map-append run_of (take p.tops.runs p.runs.now) own ∙ ap (λ zs. runs_of p ++ zs) er;
-      entries = c.entries ∙ ap (λ k. set p.entries.now p.tops.entries (entry_for p note k l)) (sym many);
-      entries_top = c.entries_top;
-      runs_top = c.runs_top ∙ ap (λ k. p.tops.runs + k) (sym many);
-      saved_top = c.saved_top;
-      cells_long = c.cells.long;
-      runs_long = c.runs.long;
-      saved_long = c.saved.long;
+  pub own_goes : sum_by (λ (r : Run). r.length) own ≡ goes ks m
+  own_goes = sym (lines_summed own) ∙ ap (λ zs. length (lines_of zs)) e
+
+  pub own_few : sum_by (λ (r : Run). r.length) own ≤ m
+  own_few = omega (arith, own_goes, goes_few ks m)
+
+  pub own_rises : Rising 0 (map run_of own) m
+  own_rises = subst (λ zs. Rising 0 zs m) (sym e) (subst (λ k. Rising 0 (runs_from (listed ks) 0 m) k) (let f : 0 + m ≡ m = omega arith in f) (runs_rising (listed ks) m 0))
+
+module _ {A : Type 0} (p : Parts A) (s : Side) (ks : List ℕ) (own : List Run) (e : map run_of own ≡ runs_from (listed ks) 0 (lines_in s p.table.rows p.table.columns)) where
+  own_lost : cut (lines_of_side s p.table.rows p.table.columns) p.table.cells.now own ≡ lost_of (table_of p) (remove_listed (side_of s) ks)
+  own_lost =
+      let w = lines_of_side s p.table.rows p.table.columns in
+      ap (taken_of w.width (w.count * w.width) 0 w.groups p.table.cells.now) e ∙ cells_lost (table_of p) p.table.cells.now refl ks s
+
+  own_left : spared (lines_of_side s p.table.rows p.table.columns) p.table.cells.now own ≡ (changed (table_of p) (remove_listed (side_of s) ks)).cells
+  own_left =
+      let w = lines_of_side s p.table.rows p.table.columns in
+      ap (λ zs. taken_of w.width (w.count * w.width) 0 w.groups p.table.cells.now (between 0 zs w.count)) e ∙ cells_left (table_of p) p.table.cells.now refl ks s
+
+  module _ (gone : ℕ) (f : gone ≡ goes ks (lines_in s p.table.rows p.table.columns)) where
+    -- the questions, asked of numbers that come to the same
+    pub asked : (a : Answer) (k m n l : ℕ) → k ≡ lines_in s p.table.rows p.table.columns
+        → (m ≡ rows_with s (k - gone) p.table.rows) × (n ≡ columns_with s (k - gone) p.table.columns) → l ≡ cells_in s gone p.table.rows p.table.columns
+        → a ≡ first_no (rooms (view p) m n (length own) l)
+        → a ≡ first_no (rooms (view p) (rows_with s (lines_in s p.table.rows p.table.columns - gone) p.table.rows) (columns_with s (lines_in s p.table.rows p.table.columns - gone) p.table.columns)
+        (length (runs_from (listed ks) 0 (lines_in s p.table.rows p.table.columns))) (cells_in s gone p.table.rows p.table.columns))
+    asked a k m n l ek shape el =
+        asked_as p a m n (length own) l _ _ _ _ (shape.0 ∙ ap (λ z. rows_with s (z - gone) p.table.rows) ek) (shape.1 ∙ ap (λ z. columns_with s (z - gone) p.table.columns) ek)
+        (own_many ks (lines_in s p.table.rows p.table.columns) own e) el
+
+    pub own_runs : Own p s own gone
+    own_runs = record {
+      rising = own_rises ks (lines_in s p.table.rows p.table.columns) own e;
+      there = omega (arith, goes_few ks (lines_in s p.table.rows p.table.columns));
+      counted = sym (ap length own_lost ∙ (numbers (table_of p) ks s gone (right p) f).lost);
     }
 
-pub found_few : (ks : List ℕ) (count : ℕ) (rs : List Run) (found : Found) → RunsFound (listed ks) count rs found → found.lines ≤ count
-found_few ks count rs found h = omega (arith, h.lines, goes_few ks count)
-
--- the product of two counts of lines
-pub small : (a b : ℕ) → a ≤ 4096 → b ≤ 4096 → a * b ≤ 16777216
-small a b h l = omega (arith, mul-le-mul_left a l)
-
-pub changed_long : {A : Type 0} (t : Table A) (ch : Change A) (m n : ℕ) → Right t → named_in t ch ≡ true → length (rows_of t ch) ≡ m → length (columns_of t ch) ≡ n
-    → length (changed t ch).cells ≡ m * n
-changed_long t ch m n right there er ec = right_changed t ch right there ∙ ap₂ ◌*◌ er ec
-
-abbrev pub row_lines : ℕ → ℕ → Lines
-row_lines m n = record { width = 1; count = m; groups = n }
-
-abbrev pub column_lines : ℕ → ℕ → Lines
-column_lines m n = record { width = m; count = n; groups = 1 }
-
-module _ {A : Type 0} (p : Parts A) (b : Bounds (view p)) (ks : List ℕ) (rs : List Run) (found : Found) where
-  module _ (h : RunsFound (listed ks) p.rows rs found) where
-    pub rows_cut : cut (row_lines p.rows p.columns) p.cells.now (take (found.runs - 0) rs) ≡ lost_of (table_of p) (remove_listed row ks)
-    rows_cut =
-        ap (taken_of 1 (p.rows * 1) 0 p.columns p.cells.now) (found_own (listed ks) p.rows rs found h)
-        ∙ rows_lost (table_of p) p.cells.now refl ks (p.rows * 1) (mul-one p.rows)
-
-    pub rows_spared : spared (row_lines p.rows p.columns) p.cells.now (take (found.runs - 0) rs) ≡ (changed (table_of p) (remove_listed row ks)).cells
-    rows_spared =
-        ap (λ zs. taken_of 1 (p.rows * 1) 0 p.columns p.cells.now (between 0 zs p.rows)) (found_own (listed ks) p.rows rs found h)
-        ∙ rows_left (table_of p) p.cells.now refl ks (p.rows * 1) (mul-one p.rows)
-
-    pub rows_inside : p.columns * (p.rows * 1) ≤ length p.cells.now
-    rows_inside =
-        let e = ap (λ z. p.columns * z) (mul-one p.rows) in
-        omega (arith, cells_fit p b, mul_comm p.columns p.rows)
-
-  module _ (h : RunsFound (listed ks) p.columns rs found) where
-    pub columns_cut : cut (column_lines p.rows p.columns) p.cells.now (take (found.runs - 0) rs) ≡ lost_of (table_of p) (remove_listed column ks)
-    columns_cut =
-        ap (taken_of p.rows (p.columns * p.rows) 0 1 p.cells.now) (found_own (listed ks) p.columns rs found h)
-        ∙ columns_lost (table_of p) p.cells.now refl ks (p.columns * p.rows)
-
-    pub columns_spared : spared (column_lines p.rows p.columns) p.cells.now (take (found.runs - 0) rs) ≡ (changed (table_of p) (remove_listed column ks)).cells
-    columns_spared =
-        ap (λ zs. taken_of p.rows (p.columns * p.rows) 0 1 p.cells.now (between 0 zs p.columns)) (found_own (listed ks) p.columns rs found h)
-        ∙ columns_left (table_of p) p.cells.now refl ks (p.columns * p.rows)
-
-    pub columns_inside : 1 * (p.columns * p.rows) ≤ length p.cells.now
-    columns_inside = omega (arith, cells_fit p b, mul_comm p.columns p.rows)
+    -- lines taken out
+    pub performed_cut : (q : Parts A) → Cut p q s own gone
+        → Performed p q (remove_listed (side_of s) ks) (rows_with s (lines_in s p.table.rows p.table.columns - gone) p.table.rows) (columns_with s (lines_in s p.table.rows p.table.columns - gone) p.table.columns)
+        (runs_from (listed ks) 0 (lines_in s p.table.rows p.table.columns)) (cells_in s gone p.table.rows p.table.columns)
+    performed_cut q c =
+        let ch = remove_listed (side_of s) ks in
+        let k = numbers (table_of p) ks s gone (right p) f in
+        let m = rows_with s (lines_in s p.table.rows p.table.columns - gone) p.table.rows in
+        let n = columns_with s (lines_in s p.table.rows p.table.columns - gone) p.table.columns in
+        let long : length (changed (table_of p) ch).cells ≡ m * n = right_changed (table_of p) ch (right p) k.named ∙ ap₂ ◌*◌ k.rows k.columns in
+        let whole : m * n ≡ 0 + length (spared (lines_of_side s p.table.rows p.table.columns) p.table.cells.now own) = (let z = ap length own_left in omega arith) in
+        record {
+          note = ListedRemoval s;
+          noted = refl;
+          rows = c.rows;
+          columns = c.columns;
+          cells = ap (λ k. take k q.table.cells.now) whole ∙ c.cells.put ∙ own_left;
+          saved = c.saved ∙ ap (λ zs. saved_of p ++ zs) own_lost;
+          runs = ap (map run_of) c.runs ∙ map-append run_of (items p.runs) own ∙ ap (λ zs. runs_of p ++ zs) e;
+          entries = c.entries ∙ ap (λ k. items p.entries ++ entry_for p (ListedRemoval s) k (cells_in s gone p.table.rows p.table.columns) ∷ []) (own_many ks (lines_in s p.table.rows p.table.columns) own e);
+          room = c.room;
+        }

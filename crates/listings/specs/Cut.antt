@@ -1,19 +1,27 @@
--- What taking runs of lines out of a sheet leaves, all but the new shape.
-use Rattle.std.specs.Prelude.{◌≡◌, ℕ, ◌+◌, List, length, slice_set}
-use Rattle.journal.specs.declared.parts.Note.{Note}
+-- Runs of lines of a sheet, and what taking them out leaves.
+use Rattle.std.specs.Prelude.{◌≡◌, ℕ, ◌-◌, ◌≤◌, List, [], ◌∷◌, ◌++◌, map, length}
+use Rattle.layout.specs.declared.side.Side.{Side}
+use Rattle.moves.specs.Blocks.{cells_in, columns_with, lines_in, rows_with}
+use Rattle.moves.specs.Stores.{items}
+use Rattle.journal.specs.declared.parts.Note.TheVariants.{ListedRemoval}
 use Rattle.journal.specs.declared.parts.Run.{Run}
 use Rattle.journal.specs.declared.parts.Parts.{Parts}
+use Rattle.journal.specs.View.{room_of, run_of}
 use Rattle.journal.specs.Entering.{entry_for}
-use Rattle.listed.specs.declared.cutting.Lines.{Lines}
-use Rattle.listed.specs.Cuts.{Behind, cut, spared}
+use Rattle.listed.specs.Runs.{Rising}
+use Rattle.listed.specs.Cuts.{Behind, cut, lines_of_side, spared}
 
-pub record Cut {A : Type 0} (p q : Parts A) (lines : Lines) (own : List Run) (note : Note) (lost : ℕ) : Type 0 where
-  pub cells : Behind p.cells.now q.cells.now 0 (spared lines p.cells.now own)
-  pub saved : Behind p.saved.now q.saved.now p.tops.saved (cut lines p.cells.now own)
-  pub runs : Behind p.runs.now q.runs.now p.tops.runs own
-  pub entries : q.entries.now ≡ slice_set p.entries.now p.tops.entries (entry_for p note (length own) lost)
-  pub entries_top : q.tops.entries ≡ p.tops.entries + 1
-  pub runs_top : q.tops.runs ≡ p.tops.runs + length own
-  pub saved_top : q.tops.saved ≡ p.tops.saved + lost
-  pub rows : q.rows ≡ p.rows
-  pub columns : q.columns ≡ p.columns
+-- the runs lie in the side one behind the other, and have `gone` lines
+pub record Own {A : Type 0} (p : Parts A) (side : Side) (own : List Run) (gone : ℕ) : Type 0 where
+  pub rising : Rising 0 (map run_of own) (lines_in side p.table.rows p.table.columns)
+  pub there : gone ≤ lines_in side p.table.rows p.table.columns
+  pub counted : cells_in side gone p.table.rows p.table.columns ≡ length (cut (lines_of_side side p.table.rows p.table.columns) p.table.cells.now own)
+
+pub record Cut {A : Type 0} (p q : Parts A) (side : Side) (own : List Run) (gone : ℕ) : Type 0 where
+  pub cells : Behind p.table.cells.now q.table.cells.now 0 (spared (lines_of_side side p.table.rows p.table.columns) p.table.cells.now own)
+  pub saved : items q.saved ≡ items p.saved ++ cut (lines_of_side side p.table.rows p.table.columns) p.table.cells.now own
+  pub runs : items q.runs ≡ items p.runs ++ own
+  pub entries : items q.entries ≡ items p.entries ++ entry_for p (ListedRemoval side) (length own) (cells_in side gone p.table.rows p.table.columns) ∷ []
+  pub rows : q.table.rows ≡ rows_with side (lines_in side p.table.rows p.table.columns - gone) p.table.rows
+  pub columns : q.table.columns ≡ columns_with side (lines_in side p.table.rows p.table.columns - gone) p.table.columns
+  pub room : room_of q ≡ room_of p

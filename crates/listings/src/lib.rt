@@ -1,53 +1,36 @@
-// Listed rows and columns taken out of a sheet, on its buffers: the runs, the questions, the moves, the entry.
+// Listed lines taken out of a sheet, on its buffers: the runs, the questions, the moves, the entry.
 #![tactic(auto)]
 
-ghost use Rattle.std.specs.Prelude.{◌≡◌, ◌+◌, ◌<◌, ◌≤◌, map, length};
-ghost use Rattle.model.specs.Sheet.{row, column, remove_listed};
+ghost use Rattle.std.specs.Prelude.{◌-◌, length};
+ghost use Rattle.moves.specs.Blocks.{cells_in, columns_with, lines_in, rows_with};
+ghost use Rattle.model.specs.Sheet.{remove_listed};
 ghost use Rattle.model.specs.Journal.{change};
-ghost use Rattle.journal.specs.View.{run_of};
+ghost use Rattle.journal.specs.View.{side_of};
+ghost use Rattle.journal.specs.Asking.{Fits};
 ghost use Rattle.journal.specs.Answering.{Answers, Held};
-ghost use Rattle.listed.specs.Runs.{Rising};
-ghost use Rattle.listed.specs.Cuts.{Lying, cut};
-ghost use Rattle.listings.specs.Cut.{Cut};
+ghost use Rattle.listings.specs.Cut.{Cut, Own};
 
-use journal::entering::enter;
-use journal::parts::{Note, Parts, Run, take_out};
-use layout::side::Side;
+use journal::parts::{Note, Parts, Run};
 use journal::questions::ask;
 use layout::refusal::Refusal;
-use listed::cutting::{Lines, cut_runs};
-use listed::finding::{Found, find_listed};
-use moves::blocks::copy_block;
+use layout::side::Side;
+use listed::cutting::cut_runs;
+use listed::finding::{count_lines, find_listed};
+use moves::store::Store;
 
-// Saves the lines of the runs and takes them out, and enters the change; the shape is left to the caller.
-fn cut_lines<T: Copy>(p: &mut Parts<'_, T>, lines: Lines, own: &[Run], note: Note, lost: usize)
-    requires rising { Rising 0 (map run_of own.now) lines.count }
-    requires inside { Lying lines p.old.cells.now }
-    requires counted { lost ≡ length (cut lines p.old.cells.now own.now) }
-    requires fits { (p.old.tops.entries < length p.old.entries.now) × (p.old.tops.runs + length own.now ≤ length p.old.runs.now) × (p.old.tops.saved + lost ≤ length p.old.saved.now) }
-    ensures { Cut p.old p.new lines own.now note lost }
+// Saves the runs and takes them out, `gone` lines in all, and enters the change.
+fn cut_lines<T: Copy>(p: &mut Parts<'_, T>, side: Side, own: &[Run], gone: u32)
+    requires own { Own p.old side own.now gone }
+    requires fits { Fits p.old (rows_with side (lines_in side p.old.table.rows p.old.table.columns - gone) p.old.table.rows) (columns_with side (lines_in side p.old.table.rows p.old.table.columns - gone) p.old.table.columns) (length own.now) (cells_in side gone p.old.table.rows p.old.table.columns) }
+    ensures { Cut p.old p.new side own.now gone }
 {
-    let Parts {
-        cells,
-        entries,
-        runs,
-        saved,
-        rows,
-        columns,
-        tops,
-    } = take_out(p);
-    cut_runs(cells, lines, own, saved, tops.saved);
-    copy_block(own, 0, runs, tops.runs, own.len());
-    *p = Parts {
-        cells,
-        entries,
-        runs,
-        saved,
-        rows,
-        columns,
-        tops,
-    };
-    enter(p, note, own.len(), lost);
+    let lost = p.table.cells_in(side, gone);
+    let left = p.table.count(side) - gone;
+    let entry = p.entry(Note::ListedRemoval(side), own.len(), lost);
+    cut_runs(&mut p.table, side, own, &mut p.saved);
+    p.table.set_count(side, left);
+    p.runs.extend_from_slice(own);
+    p.entries.push(entry);
 }
 
 const NO_RUN: Run = Run {
@@ -55,66 +38,29 @@ const NO_RUN: Run = Run {
     length: 0,
 };
 
-// Takes out each row that the list names, once; an index beyond the rows is passed over.
-pub fn remove_rows_at<T: Copy>(p: &mut Parts<'_, T>, list: &[u32]) -> Result<(), Refusal>
+// Takes out each line that the list names, once; an index beyond the lines is passed over.
+pub fn remove_lines_at<T: Copy>(
+    p: &mut Parts<'_, T>,
+    side: Side,
+    list: &[u32],
+) -> Result<(), Refusal>
     requires { Held p.old }
-    ensures { Answers p.old p.new (change (remove_listed row list.now)) result }
+    ensures { Answers p.old p.new (change (remove_listed (side_of side) list.now)) result }
 {
-    let rows = p.rows as usize;
-    let columns = p.columns as usize;
-    // No more runs than this: between two of them a row stays.
-    let mut found = [NO_RUN; 2048];
-    let Found { runs, lines } = find_listed(list, rows, &mut found);
-    let lost = lines * columns;
-    let asked = ask(p, rows - lines, columns, runs, lost);
-    if asked.is_err() {
-        return asked;
-    }
-    if columns == 0 {
+    let count = p.table.count(side) as usize;
+    // No more runs than this: between two of them a line stays.
+    let mut places = [NO_RUN; 2048];
+    let mut found = Store::new(&mut places);
+    find_listed(list, count, &mut found);
+    let own = found.as_slice();
+    let gone = count_lines(own);
+    let (rows, columns) = p.table.shape_with(side, count - gone as usize);
+    let lost = p.table.cells_in(side, gone);
+    ask(p, rows, columns, own.len(), lost)?;
+    // The last question, put of rows alone.
+    if side == Side::Rows && p.table.columns == 0 {
         return Err(Refusal::NoColumn);
     }
-    let side = Lines {
-        width: 1,
-        count: rows,
-        groups: columns,
-    };
-    cut_lines(
-        p,
-        side,
-        &found[0..runs],
-        Note::ListedRemoval(Side::Rows),
-        lost,
-    );
-    p.rows -= lines as u32;
-    Ok(())
-}
-
-// Takes out each column that the list names, once; an index beyond the columns is passed over.
-pub fn remove_columns_at<T: Copy>(p: &mut Parts<'_, T>, list: &[u32]) -> Result<(), Refusal>
-    requires { Held p.old }
-    ensures { Answers p.old p.new (change (remove_listed column list.now)) result }
-{
-    let rows = p.rows as usize;
-    let columns = p.columns as usize;
-    let mut found = [NO_RUN; 2048];
-    let Found { runs, lines } = find_listed(list, columns, &mut found);
-    let lost = rows * lines;
-    let asked = ask(p, rows, columns - lines, runs, lost);
-    if asked.is_err() {
-        return asked;
-    }
-    let side = Lines {
-        width: rows,
-        count: columns,
-        groups: 1,
-    };
-    cut_lines(
-        p,
-        side,
-        &found[0..runs],
-        Note::ListedRemoval(Side::Columns),
-        lost,
-    );
-    p.columns -= lines as u32;
+    cut_lines(p, side, own, gone);
     Ok(())
 }

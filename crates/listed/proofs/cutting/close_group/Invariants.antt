@@ -6,9 +6,11 @@ use Rattle.listed.proofs.cutting.close_group.Given as goal
 
 -- what is moved, with what lies between the runs ahead, is all; from line `at` on nothing has altered
 abbrev pub invariant-loop-run : goal.invariant-loop-run
-invariant-loop-run g l =
-    Rising l.at (map run_of (drop l.run-index l.runs)) l.lines.count
-    × (l.to ≤ l.from + l.at * l.lines.width)
-    × (take l.to l.cells ++ taken l.lines.width (drop l.from l.initial.cells) (between l.at (map run_of (drop l.run-index l.runs)) l.lines.count)
-    ≡ take l.top l.initial.cells ++ taken l.lines.width (drop l.from l.initial.cells) (between 0 (map run_of l.runs) l.lines.count))
-    × (drop (l.from + l.at * l.lines.width) l.cells ≡ drop (l.from + l.at * l.lines.width) l.initial.cells)
+invariant-loop-run g l = record {
+  rising : Rising l.at (map run_of (drop l.run-index l.runs)) l.lines.count;
+  back : l.to ≤ l.from + l.at * l.lines.width;
+  moved :
+      take l.to l.cells ++ taken l.lines.width (drop l.from l.initial.cells) (between l.at (map run_of (drop l.run-index l.runs)) l.lines.count)
+      ≡ take l.top l.initial.cells ++ taken l.lines.width (drop l.from l.initial.cells) (between 0 (map run_of l.runs) l.lines.count);
+  rest : drop (l.from + l.at * l.lines.width) l.cells ≡ drop (l.from + l.at * l.lines.width) l.initial.cells;
+}

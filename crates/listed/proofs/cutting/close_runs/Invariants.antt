@@ -5,10 +5,13 @@ use Rattle.listed.proofs.cutting.close_runs.Given as goal
 
 -- what is moved, with what the groups ahead keep, is all; from group g on nothing has altered
 abbrev pub invariant-loop-g : goal.invariant-loop-g
-invariant-loop-g g l =
-    (l.to ≤ l.g * (l.lines.count * l.lines.width))
-    × (l.to + length (taken_of l.lines.width (l.lines.count * l.lines.width) l.g (l.lines.groups - l.g) l.initial.cells (between 0 (map run_of l.runs) l.lines.count))
-    ≡ length (taken_of l.lines.width (l.lines.count * l.lines.width) 0 l.lines.groups l.initial.cells (between 0 (map run_of l.runs) l.lines.count)))
-    × (take l.to l.cells ++ taken_of l.lines.width (l.lines.count * l.lines.width) l.g (l.lines.groups - l.g) l.initial.cells (between 0 (map run_of l.runs) l.lines.count)
-    ≡ taken_of l.lines.width (l.lines.count * l.lines.width) 0 l.lines.groups l.initial.cells (between 0 (map run_of l.runs) l.lines.count))
-    × (drop (l.g * (l.lines.count * l.lines.width)) l.cells ≡ drop (l.g * (l.lines.count * l.lines.width)) l.initial.cells)
+invariant-loop-g g l = record {
+  back : l.to ≤ l.g * (l.lines.count * l.lines.width);
+  long :
+      l.to + length (taken_of l.lines.width (l.lines.count * l.lines.width) l.g (l.lines.groups - l.g) l.initial.cells (between 0 (map run_of l.runs) l.lines.count))
+      ≡ length (taken_of l.lines.width (l.lines.count * l.lines.width) 0 l.lines.groups l.initial.cells (between 0 (map run_of l.runs) l.lines.count));
+  moved :
+      take l.to l.cells ++ taken_of l.lines.width (l.lines.count * l.lines.width) l.g (l.lines.groups - l.g) l.initial.cells (between 0 (map run_of l.runs) l.lines.count)
+      ≡ taken_of l.lines.width (l.lines.count * l.lines.width) 0 l.lines.groups l.initial.cells (between 0 (map run_of l.runs) l.lines.count);
+  rest : drop (l.g * (l.lines.count * l.lines.width)) l.cells ≡ drop (l.g * (l.lines.count * l.lines.width)) l.initial.cells;
+}

@@ -1,4 +1,5 @@
-use Rattle.std.proofs.Common.{◌≡◌, ℕ, ◌+◌, ◌++◌, map, length, take, drop}
+use Rattle.std.proofs.Common.{◌≡◌, ℕ, ◌++◌, map, drop}
+use Rattle.moves.specs.Stores.{items, room}
 use Rattle.journal.specs.View.{run_of}
 use Rattle.listed.specs.Runs.{Rising}
 use Rattle.listed.specs.Cuts.{taken}
@@ -6,9 +7,8 @@ use Rattle.listed.proofs.cutting.save_group.Given as goal
 
 -- what is saved, with what the runs ahead have, is all
 abbrev pub invariant-loop-run : goal.invariant-loop-run
-invariant-loop-run g l =
-    ((a : ℕ) × Rising a (map run_of (drop l.run-index l.runs)) l.lines.count)
-    × (l.to + length (taken l.lines.width (drop l.from l.cells) (map run_of (drop l.run-index l.runs)))
-    ≡ l.top + length (taken l.lines.width (drop l.from l.cells) (map run_of l.runs)))
-    × (take l.to l.saved ++ taken l.lines.width (drop l.from l.cells) (map run_of (drop l.run-index l.runs))
-    ≡ take l.top l.initial.saved ++ taken l.lines.width (drop l.from l.cells) (map run_of l.runs))
+invariant-loop-run g l = record {
+  rising : (a : ℕ) × Rising a (map run_of (drop l.run-index l.runs)) l.lines.count;
+  saved : items l.saved ++ taken l.lines.width l.cells (map run_of (drop l.run-index l.runs)) ≡ items l.initial.saved ++ taken l.lines.width l.cells (map run_of l.runs);
+  same : room l.saved ≡ room l.initial.saved;
+}

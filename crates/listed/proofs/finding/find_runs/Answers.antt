@@ -1,41 +1,39 @@
-use Rattle.std.proofs.Common.{◌+◌, ◌-◌, ◌*◌, ◌<◌, ◌≤◌, false, ◌++◌, map, length, take, sym, ap, ◌∙◌, subst, inl, inr, append-nil, arith}
-use Rattle.std.proofs.lemmas.Bool.{cases_lt}
-use Rattle.model.specs.Journal.{lines_of, runs_from}
+use Rattle.std.proofs.Common.{◌+◌, ◌<◌, drop, true, false, [], ◌∷◌, ◌++◌, map, length, refl, ap, ◌∙◌, arith, length-append}
+use Rattle.moves.specs.Stores.{items}
 use Rattle.journal.specs.View.{run_of}
-use Rattle.listed.specs.Runs.{Skips, marked}
-use Rattle.listed.proofs.Walks.{none_left, run_grows, gap_grows, next_run, written_more, lines_more}
+use Rattle.listed.proofs.Walks.{begins_at, gap_grows, run_grows, run_written, still_inside, turned}
+use Rattle.listed.specs.Runs.{Leads}
+use Rattle.listed.proofs.Blocks.{open_end}
 use Rattle.listed.proofs.finding.find_runs.Goals as goal
 
-pub returns-then-start-marks : goal.returns-then-start-marks
-returns-then-start-marks c =
-    let marks = c.args.marks.now in
-    let found = c.loop-found.found in
-    let end = subst (λ k. Skips marks c.loop-found.at false k) c.if-start-marks.true c.skip-start.ensures in
-    let none = none_left marks c.loop-found.at end in
-    record {
-      within = omega arith;
-      runs = sym (append-nil (map run_of (take found.runs c.loop-found.runs))) ∙ ap (λ zs. map run_of (take found.runs c.loop-found.runs) ++ zs) (sym none) ∙ c.loop-found.invariant.4;
-      lines = let e = ap (λ zs. length (lines_of zs)) none in omega (arith, c.loop-found.invariant.5);
+pub loop-at-init : goal.loop-at-init
+loop-at-init c =
+    let h = begins_at c.args.marks.now c.leading-at.result c.leading-at.ensures in record {
+      within = h.0;
+      begins = h.1;
+      few = λ l. omega arith;
+      found = ap (λ zs. map run_of (items c.args.runs.now) ++ zs) h.2;
+      same = refl;
     }
 
-pub loop-found-preserved : goal.loop-found-preserved
-loop-found-preserved c =
+pub loop-at-preserved : goal.loop-at-preserved
+loop-at-preserved c =
     let marks = c.args.marks.now in
-    let at = c.loop-found.at in
-    let found = c.loop-found.found in
-    let start = c.skip-start.result in
-    let end = c.skip-end.result in
-    let s = c.skip-start.ensures in
-    let t = c.skip-end.ensures in
-    let within : start < length marks = omega arith in
-    let grows : start < end = run_grows marks at start end within s t in
-    let apart : 0 < found.runs → at < start = λ h. gap_grows marks at start end within s t (c.loop-found.invariant.3 h) in
-    let few : 2 * (found.runs + 1) ≤ end + 1 = elim (cases_lt 0 found.runs) [ inl h ↦ omega (arith, apart h) | inr h ↦ omega arith ] in
-    let next = next_run marks at start end within s t in (
-      t.within,
-      few,
-      omega (arith, s.ahead),
-      λ h. t.stop,
-      written_more c.loop-found.runs found.runs start _ _ _ (omega arith) (ap (λ zs. map run_of (take found.runs c.loop-found.runs) ++ zs) (sym next) ∙ c.loop-found.invariant.4),
-      let e = ap (λ zs. length (lines_of zs)) next in let f = lines_more start (end - start) (runs_from (marked marks) end (length marks - end)) in omega (arith, c.loop-found.invariant.5),
-    )
+    let at = c.loop-at.at in
+    let n = c.leading-count.result in
+    let m = c.leading.result in
+    let t : Leads (drop at marks) true n = rw (← open_end marks at) c.leading-count.ensures in
+    let s : Leads (drop (at + n) marks) false m = rw (← open_end marks (at + n)) c.leading.ensures in
+    let here : at < length marks = omega arith in
+    let begins = c.loop-at.invariant.begins here in
+    let end = still_inside marks at (omega arith) _ n t in
+    let grows = run_grows marks at n here begins t in
+    let more = ap length c.push.ensures.more in
+    let long = length-append (items c.loop-at.runs) (record { offset = at; length = n } ∷ []) in
+    let many = c.loop-at.invariant.few here in record {
+      within = still_inside marks (at + n) end _ m s;
+      begins = turned marks (at + n) m end s;
+      few = λ h. let gap = gap_grows marks at n here begins t m s h in omega arith;
+      found = run_written marks at n m (items c.loop-at.runs) (items c.push.new.self) _ here begins t s c.push.ensures.more c.loop-at.invariant.found;
+      same = c.push.ensures.same ∙ c.loop-at.invariant.same;
+    }
