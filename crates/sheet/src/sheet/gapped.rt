@@ -1,8 +1,8 @@
 ghost use Rattle.gaps.specs.Gaps.{Left};
 
 use journal::parts::Parts;
-use layout::side::Side;
 use layout::refusal::Refusal;
+use layout::side::Side;
 
 pub mod methods;
 

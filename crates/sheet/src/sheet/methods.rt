@@ -10,8 +10,8 @@ use super::super::opening;
 use super::super::opening::Sizes;
 use super::*;
 use journal::parts::{Entry, Parts, Run};
-use layout::side::Side;
 use layout::refusal::Refusal;
+use layout::side::Side;
 use layout::storage::Layout;
 
 impl<'a, T: Copy> Sheet<'a, T> {

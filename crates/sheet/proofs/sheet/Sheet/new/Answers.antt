@@ -1,4 +1,4 @@
-use Rattle.std.proofs.Common.{length, ap, ◌∙◌}
+use Rattle.std.proofs.Common.{ap, ◌∙◌}
 use Rattle.model.specs.Journal.{opened}
 use Rattle.sheet.specs.Opening.{table_in}
 use Rattle.sheet.proofs.Openings.{filled_reachable, holds_room}

@@ -5,7 +5,7 @@ use Rattle.sheet.proofs.sheet.gapped.Gapped.fill.Goals as goal
 pub invariant_of-result : goal.invariant_of-result
 invariant_of-result g c =
     let s = c.args.self in
-    record { reachable = filled_held s.parts _ _ _ _ s.left s.parts _ _ (fills_none s.parts s.side s.at s.count s.answer c.args.list.now c.args.v (sym (ap is_err c.in_default.is))); }
+    record { reachable = filled_held s.parts _ _ _ _ s.left s.parts _ _ (fills_none s.parts s.side s.at s.count s.answer c.args.list.now c.args.v (sym (ap is_err c.in_default.is))) }
 
 pub fill_gap-requires : goal.fill_gap-requires
 fill_gap-requires g c =
