@@ -28,6 +28,7 @@ pub trait Layout {
 }
 
 // Copies one column of a layout's table to its place in a dense one.
+// By index: of a part of `cells` that was lent out, a proof knows only the length afterwards.
 fn clone_column<L: Layout, T: Copy>(
     layout: &L,
     source: &[T],
