@@ -5,10 +5,10 @@ use Rattle.std.proofs.lemmas.Bool.{cases_eq}
 use Rattle.layout.specs.Cells.{Cloned}
 use Rattle.layout.specs.Dense.{same_parts}
 use Rattle.layout.specs.Lawful.{Grid, Distinct, selected_rows}
-use Rattle.layout.specs.Written.{Written, cell_of}
+use Rattle.layout.specs.Written.{Written}
 use Rattle.layout.proofs.Writing.{cell_written, more_written}
 use Rattle.edition.specs.declared.Lines.{Lines}
-use Rattle.edition.specs.Selections.{selected_columns, spread}
+use Rattle.edition.specs.Selections.{Packed, Selected, selected_columns, spread}
 use Rattle.edition.specs.Turned.{turn}
 
 module _ {T : Type 0} (grid : Grid) (was is : List T) (cell : ℕ → ℕ → T → T) where
@@ -59,16 +59,18 @@ module _ (n w : ℕ) where
   pub columns_within : (k c : ℕ) → k < n → c < w → k * w + c * 1 < n * w
   columns_within k c p q = omega (arith, column_place k c, mul-add-lt k w c n p q)
 
-  pub rows_apart : Distinct (spread (row_lines n) w)
-  rows_apart r c i j p q p' q' e =
-      let s = same_parts c n r j i p p' (omega (arith, row_place r c, row_place i j)) in (s.1, s.0)
+  pub rows_packed : Packed (spread (row_lines n) w)
+  rows_packed = (
+    rows_within,
+    λ r c i j p q p' q' e. let s = same_parts c n r j i p p' (omega (arith, row_place r c, row_place i j)) in (s.1, s.0),
+  )
 
-  pub columns_apart_lem : Distinct (spread (column_lines n w) w)
-  columns_apart_lem r c i j p q p' q' e = same_parts r w c i j q q' (omega (arith, column_place r c, column_place i j))
+  pub columns_packed : Packed (spread (column_lines n w) w)
+  columns_packed = (columns_within, λ r c i j p q p' q' e. same_parts r w c i j q q' (omega (arith, column_place r c, column_place i j)))
 
 module _ {T : Type 0} (grid : Grid) (list : List ℕ) (xs was is : List T) where
   -- lines that are rows of a dense table
-  pub rows_selected : Written (spread (row_lines (length list)) grid.columns) was is (λ k c. k < length list) (λ k c d. cell_of grid xs (get_or list k 0) c d)
+  pub rows_selected : Selected grid list (row_lines (length list)) xs was is
       → Cloned (selected_rows grid list) xs was is grid.columns
   rows_selected s = record {
     long = s.long;
@@ -79,7 +81,7 @@ module _ {T : Type 0} (grid : Grid) (list : List ℕ) (xs was is : List T) where
   }
 
   -- lines that are columns of a dense table
-  pub columns_selected : Written (spread (column_lines (length list) grid.rows) grid.rows) was is (λ k c. k < length list) (λ k c d. cell_of (turn grid) xs (get_or list k 0) c d)
+  pub columns_selected : Selected (turn grid) list (column_lines (length list) grid.rows) xs was is
       → Cloned (selected_columns grid list) xs was is (length list)
   columns_selected s = record {
     long = s.long;

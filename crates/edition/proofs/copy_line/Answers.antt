@@ -19,7 +19,7 @@ offset_bounds-source-p g c =
     omega (arith, c.place-p.ensures.inside (omega arith) (omega arith))
 
 pub overflow_mul-k : goal.overflow_mul-k
-overflow_mul-k g c = let h = c.requires.room c.loop-c.c (omega arith) in omega arith
+overflow_mul-k g c = let h = c.requires.packed.0 c.args.k c.loop-c.c (omega arith) (omega arith) in omega arith
 
 pub loop-c-preserved : goal.loop-c-preserved
 loop-c-preserved g c =
@@ -27,9 +27,9 @@ loop-c-preserved g c =
     let grid = g.L.Layout.grid s in
     let w = (g.L.Layout.lawful s).within c.args.line c.loop-c.c (omega arith) (omega arith) in
     let at = c.place-p.ensures.inside (omega arith) (omega arith) in
-    let room = c.requires.room c.loop-c.c (omega arith) in
+    let room = c.requires.packed.0 c.args.k c.loop-c.c (omega arith) (omega arith) in
     let read = c.index-source-p.result in
-    line_more (spread c.args.to grid.columns) c.args.target.now c.loop-c.target _ c.requires.apart
+    line_more (spread c.args.to grid.columns) c.args.target.now c.loop-c.target _ c.requires.packed.1
     c.args.k c.loop-c.c (c.args.k * c.args.to.line_step + c.loop-c.c * c.args.to.cell_step) read
     (omega arith) (omega arith) refl (omega arith)
     (λ d. get_or_read c.args.source.now c.place-p.result read (omega arith) c.index-source-p.is d ∙ ap (λ z. get_or c.args.source.now z d) at)
