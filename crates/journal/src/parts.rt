@@ -36,6 +36,21 @@ pub struct Entry {
     pub cells: usize,
 }
 
+// What fills a buffer of runs before it is handed in.
+pub const NO_RUN: Run = Run {
+    offset: 0,
+    length: 0,
+};
+
+// And a buffer of entries.
+pub const NO_ENTRY: Entry = Entry {
+    note: Note::Removal(Side::Rows, 0, 0),
+    rows: 0,
+    columns: 0,
+    runs: 0,
+    cells: 0,
+};
+
 // How much of each journal buffer is in use.
 #[derive(Clone, Copy)]
 pub struct Tops {
