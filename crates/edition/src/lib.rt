@@ -13,7 +13,7 @@ ghost use Rattle.edition.specs.Turned.{turn};
 
 use layout::indexing::all_below;
 use layout::refusal::Refusal;
-use layout::storage::Layout;
+use layout::storage::{Layout, read, write};
 use turned::Turned;
 
 mod turned;
@@ -58,14 +58,14 @@ pub fn swap_columns<L: Layout, T: Copy>(
 }
 
 // Fills one column from a row on.
+// Layout and buffer come apart: each method of a struct of the two would owe that it keeps both.
 fn fill_column_from<L: Layout, T: Copy>(layout: &L, buffer: &mut [T], v: T, row: u32, column: u32)
     requires { (column < (L.grid layout.now).columns) × ((L.grid layout.now).span ≤ length buffer.old) }
     ensures { Written (L.grid layout.now) buffer.old buffer.new (λ r c. (c ≡ column) × (row ≤ r)) (λ r c d. v) }
 {
     let (rows, _) = layout.shape();
     for r in row..rows {
-        let p = layout.place(r, column) as usize;
-        buffer[p] = v;
+        write(layout, buffer, r, column, v);
     }
 }
 
@@ -112,9 +112,8 @@ fn copy_across<L: Layout, T: Copy>(layout: &L, buffer: &mut [T], column: u32)
 {
     let (rows, _) = layout.shape();
     for r in column + 1..rows {
-        let from = layout.place(column, r) as usize;
-        let to = layout.place(r, column) as usize;
-        buffer[to] = buffer[from];
+        let across = read(layout, buffer, column, r);
+        write(layout, buffer, r, column, across);
     }
 }
 
@@ -175,8 +174,7 @@ fn copy_line<L: Layout, T: Copy>(
 {
     let (_, columns) = layout.shape();
     for c in 0..columns {
-        let p = layout.place(line, c) as usize;
-        target[k * to.line_step + c as usize * to.cell_step] = source[p];
+        target[k * to.line_step + c as usize * to.cell_step] = read(layout, source, line, c);
     }
 }
 

@@ -5,7 +5,7 @@ ghost use Rattle.layout.specs.Checks.{Checked, Passes};
 ghost use Rattle.layout.specs.Picked.{Below, Once, picked, picked_lawful, picked_rules};
 
 use super::refusal::Refusal;
-use super::storage::Layout;
+use super::storage::{Layout, read};
 use super::vec_storage::Dense;
 
 // Reads a cell of a buffer; None outside the shape, or if the buffer ends before the span.
@@ -14,7 +14,7 @@ pub fn get<L: Layout, T: Copy>(layout: &L, buffer: &[T], row: u32, column: u32) 
 {
     let (rows, columns) = layout.shape();
     if row < rows && column < columns && layout.span() as usize <= buffer.len() {
-        Some(buffer[layout.place(row, column) as usize])
+        Some(read(layout, buffer, row, column))
     } else {
         None
     }
