@@ -1,5 +1,5 @@
 -- Turns of the loops that copy listed lines, and the dense table that they leave.
-use Rattle.std.proofs.Common.{◌≡◌, ℕ, ◌+◌, ◌*◌, ◌<◌, List, length, get_or, set, sym, ap, ◌∙◌, subst, inl, inr, ⊎_elim, mul_comm, mul-one, arith}
+use Rattle.std.proofs.Common.{◌≡◌, ℕ, ◌+◌, ◌*◌, ◌<◌, List, length, get_or, set, sym, ap, ◌∙◌, inl, inr, ⊎_elim, mul_comm, mul-one, arith}
 use Rattle.std.proofs.lemmas.Nat.{mul-add-lt}
 use Rattle.std.proofs.lemmas.Bool.{cases_eq}
 use Rattle.layout.specs.Cells.{Cloned}
@@ -25,17 +25,6 @@ module _ {T : Type 0} (grid : Grid) (was is : List T) (cell : ℕ → ℕ → T 
       ])
       (λ i c hi hc. ⊎_elim (λ z. (z.0, omega arith)) (λ z. (z.0, omega arith)))
       (λ i c d hi hc at. same d ∙ ap (λ z. cell z n d) (sym at.0) ∙ ap (λ z. cell i z d) (sym at.1))
-
-  -- one line more
-  pub lines_more : (next : List T) (k : ℕ) (line : ℕ → ℕ → T → T)
-      → Written grid was is (λ i c. i < k) cell → Written grid is next (λ i c. i ≡ k) line
-      → ((c : ℕ) (d : T) → line k c d ≡ cell k c d)
-      → Written grid was next (λ i c. i < k + 1) cell
-  lines_more next k line so t same =
-      more_written grid was is next _ _ _ _ _ so t
-      (λ i c hi hc at. elim (cases_eq i k) [ inl e ↦ inr e | inr ne ↦ inl (omega arith, ne) ])
-      (λ i c hi hc. ⊎_elim (λ z. omega arith) (λ z. omega arith))
-      (λ i c d hi hc at. subst (λ z. line z c d ≡ cell z c d) (sym at) (same c d))
 
 -- n rows, one behind the other in each of w columns
 abbrev pub row_lines : ℕ → Lines

@@ -1,10 +1,6 @@
 use Rattle.std.proofs.Common.{◌+◌, sym, ◌∙◌, arith}
-use Rattle.layout.proofs.Writing.{nothing_written, renamed}
 use Rattle.edition.proofs.Filling.{column_more}
 use Rattle.edition.proofs.copy_across.Goals as goal
-
-pub loop-r-init : goal.loop-r-init
-loop-r-init g c = nothing_written _ _ _ _ (λ r c p q h. omega (arith, h.1, h.2))
 
 pub loop-r-preserved : goal.loop-r-preserved
 loop-r-preserved g c =
@@ -12,6 +8,3 @@ loop-r-preserved g c =
     c.args.column (c.args.column + 1) c.loop-r.r c.read-across.result (omega arith)
     (λ d. sym (c.read-across.ensures d) ∙ c.loop-r.invariant.kept c.args.column c.loop-r.r d (omega arith) (omega arith) (λ z. omega (arith, z.0)))
     c.loop-r.invariant c.write.ensures
-
-pub returns : goal.returns
-returns g c = renamed _ c.loop-r.invariant (λ r k p q h. (h.0, h.1, omega arith)) (λ r k p q h. (h.0, h.1))

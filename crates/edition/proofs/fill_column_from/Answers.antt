@@ -1,15 +1,8 @@
 use Rattle.std.proofs.Common.{refl, arith}
-use Rattle.layout.proofs.Writing.{nothing_written, renamed}
 use Rattle.edition.proofs.Filling.{column_more}
 use Rattle.edition.proofs.fill_column_from.Goals as goal
-
-pub loop-r-init : goal.loop-r-init
-loop-r-init g c = nothing_written _ _ _ _ (λ r c p q h. omega (arith, h.1, h.2))
 
 pub loop-r-preserved : goal.loop-r-preserved
 loop-r-preserved g c =
     column_more (g.L.Layout.grid c.args.layout.now) c.args.buffer.now c.loop-r.buffer c.write.new.buffer _
     c.args.column c.args.row c.loop-r.r c.args.v (omega arith) (λ d. refl) c.loop-r.invariant c.write.ensures
-
-pub returns : goal.returns
-returns g c = renamed _ c.loop-r.invariant (λ r k p q h. (h.0, h.1, omega arith)) (λ r k p q h. (h.0, h.1))

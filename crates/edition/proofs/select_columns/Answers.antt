@@ -14,15 +14,11 @@ select_lines-requires g c =
       packed = subst (λ (z : ℕ). Packed (spread (column_lines count z) rows)) (sym c.shape-rows.ensures.0) (columns_packed count rows);
     }
 
-pub returns : goal.returns
-returns g c =
+pub returns-clause-after : goal.returns-clause-after
+returns-clause-after g c =
     let grid = g.L.Layout.grid c.args.layout.now in
     let list = c.args.list.now in
-    let e = c.select_lines.ensures in
-    record {
-      answer = e.answer;
-      after = MatchResult-weaker c.select_lines.result e.after
-          (λ _ s. columns_selected grid list c.args.source.now _ _
-          (subst (λ (z : ℕ). Selected (turn grid) list (column_lines (length list) z) c.args.source.now c.args.target.now c.select_lines.new.target) c.shape-rows.ensures.0 s))
-          (λ _ same. same);
-    }
+    MatchResult-weaker c.select_lines.result c.select_lines.ensures.after
+    (λ _ s. columns_selected grid list c.args.source.now _ _
+    (subst (λ (z : ℕ). Selected (turn grid) list (column_lines (length list) z) c.args.source.now c.args.target.now c.select_lines.new.target) c.shape-rows.ensures.0 s))
+    (λ _ same. same)

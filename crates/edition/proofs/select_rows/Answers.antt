@@ -7,10 +7,7 @@ pub select_lines-requires : goal.select_lines-requires
 select_lines-requires g c =
     record { all = refl; packed = rows_packed (length c.args.list.now) (g.L.Layout.grid c.args.layout.now).columns }
 
-pub returns : goal.returns
-returns g c =
-    let e = c.select_lines.ensures in
-    record {
-      answer = e.answer;
-      after = MatchResult-weaker c.select_lines.result e.after (λ _ s. rows_selected (g.L.Layout.grid c.args.layout.now) c.args.list.now c.args.source.now _ _ s) (λ _ same. same);
-    }
+pub returns-clause-after : goal.returns-clause-after
+returns-clause-after g c =
+    MatchResult-weaker c.select_lines.result c.select_lines.ensures.after
+    (λ _ s. rows_selected (g.L.Layout.grid c.args.layout.now) c.args.list.now c.args.source.now _ _ s) (λ _ same. same)
