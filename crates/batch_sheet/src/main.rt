@@ -3,8 +3,7 @@
 
 ghost use Rattle.std.specs.Prelude.{◌≤◌, length, IfOk};
 
-use journal::parts::{Entry, Note, Run};
-use layout::side::Side;
+use journal::parts::{NO_ENTRY, NO_RUN};
 use layout::vec_storage::Dense;
 use session::state::{Lines, Session};
 use sheet::sheet::Sheet;
@@ -22,19 +21,6 @@ const ENTRIES: usize = 64;
 const RUNS: usize = 256;
 
 const SAVED: usize = 4096;
-
-const NO_ENTRY: Entry = Entry {
-    note: Note::Removal(Side::Rows, 0, 0),
-    rows: 0,
-    columns: 0,
-    runs: 0,
-    cells: 0,
-};
-
-const NO_RUN: Run = Run {
-    offset: 0,
-    length: 0,
-};
 
 // Reads up to the end of the input or of the page, and says how much was read.
 fn fill<R: Read>(input: &mut R, page: &mut [u8]) -> io::Result<usize>

@@ -1,18 +1,19 @@
 -- Turns of the loops that write triangles.
-use Rattle.std.proofs.Common.{◌≡◌, ℕ, ◌+◌, ◌<◌, ◌≤◌, List, length, set, sym, ap, ◌∙◌, subst, inl, inr, ⊎_elim, arith}
+use Rattle.std.proofs.Common.{◌≡◌, ℕ, ◌+◌, ◌<◌, ◌≤◌, List, sym, ap, ◌∙◌, subst, inl, inr, ⊎_elim, arith}
 use Rattle.std.proofs.lemmas.Bool.{cases_eq}
-use Rattle.layout.specs.Lawful.{Grid, Distinct}
+use Rattle.layout.specs.Lawful.{Grid}
 use Rattle.layout.specs.Written.{Written}
-use Rattle.layout.proofs.Writing.{cell_written, more_written}
+use Rattle.layout.proofs.Writing.{more_written}
 
 module _ {T : Type 0} (grid : Grid) (was is next : List T) (cell : ℕ → ℕ → T → T) where
   -- one cell more of column j, which is written from row k on
-  pub column_more : Distinct grid → (j k n p : ℕ) (v : T) → k ≤ n → n < grid.rows → j < grid.columns → p ≡ grid.place n j → p < length is
+  pub column_more : (j k n : ℕ) (v : T) → k ≤ n
       → ((d : T) → v ≡ cell n j d)
       → Written grid was is (λ r c. (c ≡ j) × (k ≤ r) × (r < n)) cell
-      → Written grid was (set is p v) (λ r c. (c ≡ j) × (k ≤ r) × (r < n + 1)) cell
-  column_more distinct j k n p v hk hn hj e there same so =
-      more_written grid was is (set is p v) _ _ _ _ _ so (cell_written grid distinct is n j p v hn hj e there)
+      → Written grid is next (λ r c. (r ≡ n) × (c ≡ j)) (λ r c d. v)
+      → Written grid was next (λ r c. (c ≡ j) × (k ≤ r) × (r < n + 1)) cell
+  column_more j k n v hk same so t =
+      more_written grid was is next _ _ _ _ _ so t
       (λ r c hr hc at. elim (cases_eq r n) [
         | inl z ↦ inr (z, at.0)
         | inr ne ↦ inl ((at.0, at.1, omega arith), λ z. ne z.0)

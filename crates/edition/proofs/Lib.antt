@@ -1,4 +1,3 @@
 mod Swapping
-mod Turning
 mod Filling
 mod Selecting

@@ -1,14 +1,14 @@
 -- Turns of the loops that copy listed lines, and the dense table that they leave.
-use Rattle.std.proofs.Common.{◌≡◌, ℕ, ◌+◌, ◌*◌, ◌<◌, List, length, get_or, set, sym, ap, ◌∙◌, subst, inl, inr, ⊎_elim, mul_comm, mul-one, arith}
+use Rattle.std.proofs.Common.{◌≡◌, ℕ, ◌+◌, ◌*◌, ◌<◌, List, length, get_or, set, sym, ap, ◌∙◌, inl, inr, ⊎_elim, mul_comm, mul-one, arith}
 use Rattle.std.proofs.lemmas.Nat.{mul-add-lt}
 use Rattle.std.proofs.lemmas.Bool.{cases_eq}
 use Rattle.layout.specs.Cells.{Cloned}
 use Rattle.layout.specs.Dense.{same_parts}
 use Rattle.layout.specs.Lawful.{Grid, Distinct, selected_rows}
-use Rattle.layout.specs.Written.{Written, cell_of}
+use Rattle.layout.specs.Written.{Written}
 use Rattle.layout.proofs.Writing.{cell_written, more_written}
 use Rattle.edition.specs.declared.Lines.{Lines}
-use Rattle.edition.specs.Selections.{selected_columns, spread}
+use Rattle.edition.specs.Selections.{Packed, Selected, selected_columns, spread}
 use Rattle.edition.specs.Turned.{turn}
 
 module _ {T : Type 0} (grid : Grid) (was is : List T) (cell : ℕ → ℕ → T → T) where
@@ -25,17 +25,6 @@ module _ {T : Type 0} (grid : Grid) (was is : List T) (cell : ℕ → ℕ → T 
       ])
       (λ i c hi hc. ⊎_elim (λ z. (z.0, omega arith)) (λ z. (z.0, omega arith)))
       (λ i c d hi hc at. same d ∙ ap (λ z. cell z n d) (sym at.0) ∙ ap (λ z. cell i z d) (sym at.1))
-
-  -- one line more
-  pub lines_more : (next : List T) (k : ℕ) (line : ℕ → ℕ → T → T)
-      → Written grid was is (λ i c. i < k) cell → Written grid is next (λ i c. i ≡ k) line
-      → ((c : ℕ) (d : T) → line k c d ≡ cell k c d)
-      → Written grid was next (λ i c. i < k + 1) cell
-  lines_more next k line so t same =
-      more_written grid was is next _ _ _ _ _ so t
-      (λ i c hi hc at. elim (cases_eq i k) [ inl e ↦ inr e | inr ne ↦ inl (omega arith, ne) ])
-      (λ i c hi hc. ⊎_elim (λ z. omega arith) (λ z. omega arith))
-      (λ i c d hi hc at. subst (λ z. line z c d ≡ cell z c d) (sym at) (same c d))
 
 -- n rows, one behind the other in each of w columns
 abbrev pub row_lines : ℕ → Lines
@@ -59,16 +48,18 @@ module _ (n w : ℕ) where
   pub columns_within : (k c : ℕ) → k < n → c < w → k * w + c * 1 < n * w
   columns_within k c p q = omega (arith, column_place k c, mul-add-lt k w c n p q)
 
-  pub rows_apart : Distinct (spread (row_lines n) w)
-  rows_apart r c i j p q p' q' e =
-      let s = same_parts c n r j i p p' (omega (arith, row_place r c, row_place i j)) in (s.1, s.0)
+  pub rows_packed : Packed (spread (row_lines n) w)
+  rows_packed = (
+    rows_within,
+    λ r c i j p q p' q' e. let s = same_parts c n r j i p p' (omega (arith, row_place r c, row_place i j)) in (s.1, s.0),
+  )
 
-  pub columns_apart_lem : Distinct (spread (column_lines n w) w)
-  columns_apart_lem r c i j p q p' q' e = same_parts r w c i j q q' (omega (arith, column_place r c, column_place i j))
+  pub columns_packed : Packed (spread (column_lines n w) w)
+  columns_packed = (columns_within, λ r c i j p q p' q' e. same_parts r w c i j q q' (omega (arith, column_place r c, column_place i j)))
 
 module _ {T : Type 0} (grid : Grid) (list : List ℕ) (xs was is : List T) where
   -- lines that are rows of a dense table
-  pub rows_selected : Written (spread (row_lines (length list)) grid.columns) was is (λ k c. k < length list) (λ k c d. cell_of grid xs (get_or list k 0) c d)
+  pub rows_selected : Selected grid list (row_lines (length list)) xs was is
       → Cloned (selected_rows grid list) xs was is grid.columns
   rows_selected s = record {
     long = s.long;
@@ -79,7 +70,7 @@ module _ {T : Type 0} (grid : Grid) (list : List ℕ) (xs was is : List T) where
   }
 
   -- lines that are columns of a dense table
-  pub columns_selected : Written (spread (column_lines (length list) grid.rows) grid.rows) was is (λ k c. k < length list) (λ k c d. cell_of (turn grid) xs (get_or list k 0) c d)
+  pub columns_selected : Selected (turn grid) list (column_lines (length list) grid.rows) xs was is
       → Cloned (selected_columns grid list) xs was is (length list)
   columns_selected s = record {
     long = s.long;

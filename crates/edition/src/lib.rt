@@ -1,20 +1,19 @@
 // What acts on a caller's buffer through any layout: swaps, selections, triangles.
 #![tactic(auto)]
 
-ghost use Rattle.std.specs.Prelude.{◌≡◌, ℕ, ◌+◌, ◌*◌, ◌<◌, ◌≤◌, length, MatchResult, slice_index};
+ghost use Rattle.std.specs.Prelude.{◌≡◌, ℕ, ◌+◌, ◌*◌, ◌<◌, ◌≤◌, length, MatchResult};
 ghost use Rattle.layout.specs.Cells.{Cloned};
 ghost use Rattle.layout.specs.Checks.{Checked};
-ghost use Rattle.layout.specs.Lawful.{Distinct, selected_rows};
-ghost use Rattle.layout.specs.Picked.{Below};
+ghost use Rattle.layout.specs.Lawful.{selected_rows};
 ghost use Rattle.layout.specs.Written.{Written, cell_of};
-ghost use Rattle.edition.specs.Selections.{select_rules, selected_columns, spread};
+ghost use Rattle.edition.specs.Selections.{Packed, Selected, select_rules, selected_columns, spread};
 ghost use Rattle.edition.specs.Swaps.{ColumnsSwapped, RowsSwapped, swap_rules};
 ghost use Rattle.edition.specs.Triangles.{LowerCopied, LowerFilled, UpperCopied, UpperFilled, fill_rules, square_rules};
 ghost use Rattle.edition.specs.Turned.{turn};
 
 use layout::indexing::all_below;
 use layout::refusal::Refusal;
-use layout::storage::Layout;
+use layout::storage::{Layout, read, write};
 use turned::Turned;
 
 mod turned;
@@ -59,14 +58,14 @@ pub fn swap_columns<L: Layout, T: Copy>(
 }
 
 // Fills one column from a row on.
+// Layout and buffer come apart: each method of a struct of the two would owe that it keeps both.
 fn fill_column_from<L: Layout, T: Copy>(layout: &L, buffer: &mut [T], v: T, row: u32, column: u32)
     requires { (column < (L.grid layout.now).columns) × ((L.grid layout.now).span ≤ length buffer.old) }
     ensures { Written (L.grid layout.now) buffer.old buffer.new (λ r c. (c ≡ column) × (row ≤ r)) (λ r c d. v) }
 {
     let (rows, _) = layout.shape();
     for r in row..rows {
-        let p = layout.place(r, column) as usize;
-        buffer[p] = v;
+        write(layout, buffer, r, column, v);
     }
 }
 
@@ -113,9 +112,8 @@ fn copy_across<L: Layout, T: Copy>(layout: &L, buffer: &mut [T], column: u32)
 {
     let (rows, _) = layout.shape();
     for r in column + 1..rows {
-        let from = layout.place(column, r) as usize;
-        let to = layout.place(r, column) as usize;
-        buffer[to] = buffer[from];
+        let across = read(layout, buffer, column, r);
+        write(layout, buffer, r, column, across);
     }
 }
 
@@ -170,43 +168,28 @@ fn copy_line<L: Layout, T: Copy>(
     k: usize,
 )
     requires there { (line < (L.grid layout.now).rows) × ((L.grid layout.now).span ≤ length source.now) × (k < to.count) }
-    requires apart { Distinct (spread to (L.grid layout.now).columns) }
-    requires room { (c : ℕ) → c < (L.grid layout.now).columns → k * to.line_step + c * to.cell_step < length target.old }
+    requires packed { Packed (spread to (L.grid layout.now).columns) }
+    requires room { to.count * (L.grid layout.now).columns ≤ length target.old }
     ensures { Written (spread to (L.grid layout.now).columns) target.old target.new (λ i c. i ≡ k) (λ i c d. cell_of (L.grid layout.now) source.now line c d) }
 {
     let (_, columns) = layout.shape();
     for c in 0..columns {
-        let p = layout.place(line, c) as usize;
-        target[k * to.line_step + c as usize * to.cell_step] = source[p];
+        target[k * to.line_step + c as usize * to.cell_step] = read(layout, source, line, c);
     }
 }
 
-// Copies the listed rows of the layout's table, one after another.
-fn copy_lines<L: Layout, T: Copy>(
+// Copies the listed rows of the layout's table, one after another. Puts questions 2, 3, 4 and 10.
+fn select_lines<L: Layout, T: Copy>(
     layout: &L,
     source: &[T],
     list: &[u32],
     target: &mut [T],
     to: Lines,
-)
-    requires there { Below list.now (L.grid layout.now).rows × ((L.grid layout.now).span ≤ length source.now) × (to.count ≡ length list.now) }
-    requires apart { Distinct (spread to (L.grid layout.now).columns) }
-    requires room { (k c : ℕ) → k < to.count → c < (L.grid layout.now).columns → k * to.line_step + c * to.cell_step < length target.old }
-    ensures { Written (spread to (L.grid layout.now).columns) target.old target.new (λ i c. i < to.count) (λ i c d. cell_of (L.grid layout.now) source.now (slice_index list.now i) c d) }
-{
-    for (k, line) in list.iter().enumerate() {
-        copy_line(layout, source, *line, target, to, k);
-    }
-}
-
-// Questions 2, 3, 4 and 10, of a selection of rows.
-fn ask_selection<L: Layout>(
-    layout: &L,
-    list: &[u32],
-    source: usize,
-    target: usize,
 ) -> Result<(), Refusal>
-    ensures { Checked (select_rules (L.grid layout.now) list.now source target) result }
+    requires all { to.count ≡ length list.now }
+    requires packed { Packed (spread to (L.grid layout.now).columns) }
+    ensures answer { Checked (select_rules (L.grid layout.now) list.now (length source.now) (length target.old)) result }
+    ensures after { MatchResult result (λ _. Selected (L.grid layout.now) list.now to source.now target.old target.new) (λ _. target.new ≡ target.old) }
 {
     let (rows, columns) = layout.shape();
     if !all_below(list, rows) {
@@ -215,11 +198,14 @@ fn ask_selection<L: Layout>(
     if list.len() > 4096 || columns > 4096 {
         return Err(Refusal::TooManyLines);
     }
-    if list.len() * columns as usize > target {
+    if list.len() * columns as usize > target.len() {
         return Err(Refusal::TooManyCells);
     }
-    if layout.span() as usize > source {
+    if layout.span() as usize > source.len() {
         return Err(Refusal::BufferTooShort);
+    }
+    for (k, line) in list.iter().enumerate() {
+        copy_line(layout, source, *line, target, to, k);
     }
     Ok(())
 }
@@ -235,17 +221,12 @@ pub fn select_rows<L: Layout, T: Copy>(
     ensures answer { Checked (select_rules (L.grid layout.now) list.now (length source.now) (length target.old)) result }
     ensures after { MatchResult result (λ _. Cloned (selected_rows (L.grid layout.now) list.now) source.now target.old target.new (L.grid layout.now).columns) (λ _. target.new ≡ target.old) }
 {
-    let asked = ask_selection(layout, list, source.len(), target.len());
-    if asked.is_err() {
-        return asked;
-    }
     let to = Lines {
         count: list.len(),
         line_step: 1,
         cell_step: list.len(),
     };
-    copy_lines(layout, source, list, target, to);
-    Ok(())
+    select_lines(layout, source, list, target, to)
 }
 
 // Writes the listed columns, in the list's order, as a dense table at the start of a second buffer.
@@ -259,17 +240,12 @@ pub fn select_columns<L: Layout, T: Copy>(
     ensures answer { Checked (select_rules (turn (L.grid layout.now)) list.now (length source.now) (length target.old)) result }
     ensures after { MatchResult result (λ _. Cloned (selected_columns (L.grid layout.now) list.now) source.now target.old target.new (length list.now)) (λ _. target.new ≡ target.old) }
 {
-    let turned = Turned { layout };
-    let asked = ask_selection(&turned, list, source.len(), target.len());
-    if asked.is_err() {
-        return asked;
-    }
     let (rows, _) = layout.shape();
     let to = Lines {
         count: list.len(),
         line_step: rows as usize,
         cell_step: 1,
     };
-    copy_lines(&turned, source, list, target, to);
-    Ok(())
+    let turned = Turned { layout };
+    select_lines(&turned, source, list, target, to)
 }

@@ -9,44 +9,8 @@ use layout::matrix_view::Strided;
 use layout::refusal::Refusal;
 use layout::storage::Layout;
 use layout::vec_storage::Dense;
-use sheet::cell::WeighingNote;
+use marked::{Marked, note, same_marks};
 use std::process::Abort;
-
-// A kind of cell that a number can be written into and read out of again.
-trait Marked {
-    fn of(n: u32) -> Self;
-
-    fn mark(&self) -> u32;
-}
-
-impl Marked for u32 {
-    fn of(n: u32) -> u32 {
-        n
-    }
-
-    fn mark(&self) -> u32 {
-        *self
-    }
-}
-
-// A note whose parts do not belong together has the mark 999.
-impl Marked for WeighingNote {
-    fn of(n: u32) -> WeighingNote {
-        WeighingNote {
-            ticket: n,
-            kilograms: n ^ 1000,
-            quality: b'a',
-        }
-    }
-
-    fn mark(&self) -> u32 {
-        if self.kilograms == self.ticket ^ 1000 && self.quality == b'a' {
-            self.ticket
-        } else {
-            999
-        }
-    }
-}
 
 #[derive(Clone, Copy)]
 enum Call<'c> {
@@ -88,13 +52,6 @@ fn perform<L: Layout, T: Copy + Marked>(
     }
 }
 
-fn same_marks<T: Marked>(rt: &impl Abort, cells: &[T], marks: &[u32]) {
-    assert_eq!(rt; cells.len(), marks.len());
-    for (cell, mark) in cells.iter().zip(marks) {
-        assert_eq!(rt; cell.mark(), *mark);
-    }
-}
-
 // What a call answers and leaves in the two buffers; behind `written` the second one holds 77.
 fn leaves<T: Copy + Marked>(
     rt: &impl Abort,
@@ -120,10 +77,6 @@ fn leaves<T: Copy + Marked>(
     for (k, cell) in target.iter().enumerate() {
         assert_eq!(rt; cell.mark(), written.get(k).copied().unwrap_or(77));
     }
-}
-
-fn note(n: u32) -> WeighingNote {
-    WeighingNote::of(n)
 }
 
 // On the cells 1 2 3 4 5 6, and a second buffer of eight cells 77, with both kinds of cell.

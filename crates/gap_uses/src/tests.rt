@@ -1,51 +1,13 @@
 use super::put_weights;
-use journal::parts::{Entry, Note, Run};
-use layout::side::Side;
+use journal::parts::{Entry, NO_ENTRY, NO_RUN, Note};
 use layout::refusal::Refusal;
+use layout::side::Side;
 use layout::storage::Layout;
 use layout::vec_storage::Dense;
-use sheet::cell::WeighingNote;
+use marked::{Marked, note, same_marks};
 use sheet::sheet::Sheet;
 use std::process::Abort;
 use std::test::Fail;
-
-// A kind of cell that a number can be written into and read out of again.
-trait Marked {
-    fn of(n: u32) -> Self;
-
-    fn mark(&self) -> u32;
-}
-
-impl Marked for u32 {
-    fn of(n: u32) -> u32 {
-        n
-    }
-
-    fn mark(&self) -> u32 {
-        *self
-    }
-}
-
-// A note whose parts do not belong together has the mark 999.
-impl Marked for WeighingNote {
-    fn of(n: u32) -> WeighingNote {
-        WeighingNote {
-            ticket: n,
-            kilograms: n ^ 1000,
-            quality: (n % 26) as u8 + b'a',
-        }
-    }
-
-    fn mark(&self) -> u32 {
-        if self.kilograms == self.ticket ^ 1000
-            && u32::from(self.quality) == self.ticket % 26 + 97
-        {
-            self.ticket
-        } else {
-            999
-        }
-    }
-}
 
 // A gap of `count` lines at `at` in the 3 × 2 table stored 1 2 3 4 5 6, filled with the first `listed` of 7 8 9 and
 // with the value 0: its answer, and the shape and cells after it.
@@ -58,26 +20,6 @@ struct Example<'e> {
     answer: Result<(), Refusal>,
     shape: (u32, u32),
     cells: &'e [u32],
-}
-
-const NO_ENTRY: Entry = Entry {
-    note: Note::Removal(Side::Rows, 0, 0),
-    rows: 0,
-    columns: 0,
-    runs: 0,
-    cells: 0,
-};
-
-const NO_RUN: Run = Run {
-    offset: 0,
-    length: 0,
-};
-
-fn same_marks<T: Marked>(rt: &impl Abort, cells: &[T], marks: &[u32]) {
-    assert_eq!(rt; cells.len(), marks.len());
-    for (cell, mark) in cells.iter().zip(marks) {
-        assert_eq!(rt; cell.mark(), *mark);
-    }
 }
 
 fn holds<T: Copy + Marked>(
@@ -120,10 +62,6 @@ fn holds<T: Copy + Marked>(
     };
     assert_eq!(rt; sheet.entries(), &[entry][..]);
     Ok(())
-}
-
-fn note(n: u32) -> WeighingNote {
-    WeighingNote::of(n)
 }
 
 #[test]

@@ -39,6 +39,21 @@ pub struct Entry {
     pub cells: usize,
 }
 
+// What fills a buffer of runs before it is handed in.
+pub const NO_RUN: Run = Run {
+    offset: 0,
+    length: 0,
+};
+
+// And a buffer of entries.
+pub const NO_ENTRY: Entry = Entry {
+    note: Note::Removal(Side::Rows, 0, 0),
+    rows: 0,
+    columns: 0,
+    runs: 0,
+    cells: 0,
+};
+
 // A table and its journal, over four handed-in buffers.
 #[derive(Drop)]
 pub struct Parts<'a, T> {

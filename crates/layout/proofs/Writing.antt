@@ -1,14 +1,9 @@
 -- Writing through a layout, cell by cell and part by part.
-use Rattle.std.proofs.Common.{◌≡◌, ℕ, ◌<◌, ◌⊎◌, List, length, get_or, set, sym, refl, ap, ◌∙◌, inl, inr, length-set, get_or-set_other, get_or-set_same}
+use Rattle.std.proofs.Common.{◌≡◌, ℕ, ◌<◌, ◌⊎◌, List, length, get_or, set, sym, ap, ◌∙◌, inl, inr, length-set, get_or-set_other, get_or-set_same}
 use Rattle.layout.specs.Lawful.{Grid, Distinct}
 use Rattle.layout.specs.Written.{Written}
 
 module _ {T : Type 0} (grid : Grid) where
-  pub nothing_written : (was : List T) (at : ℕ → ℕ → Type 0) (cell : ℕ → ℕ → T → T)
-      → ((r c : ℕ) → r < grid.rows → c < grid.columns → at r c → ⊥) → Written grid was was at cell
-  nothing_written was at cell none =
-      record { long = refl; written = λ r c d p q h. absurd (none r c p q h); kept = λ r c d p q h. refl; others = λ k d h. refl }
-
   -- one cell, whose place is p
   pub cell_written : Distinct grid → (was : List T) (i j p : ℕ) (v : T) → i < grid.rows → j < grid.columns → p ≡ grid.place i j → p < length was
       → Written grid was (set was p v) (λ r c. (r ≡ i) × (c ≡ j)) (λ r c d. v)
@@ -37,16 +32,4 @@ module _ {T : Type 0} (grid : Grid) where
     kept = λ r c d hr hc no.
         t.kept r c d hr hc (λ h. no (join r c hr hc (inr h))) ∙ s.kept r c d hr hc (λ h. no (join r c hr hc (inl h)));
     others = λ k d no. t.others k d no ∙ s.others k d no;
-  }
-
-  -- the same cells under another name
-  pub renamed : {was is : List T} {at by : ℕ → ℕ → Type 0} {cell : ℕ → ℕ → T → T} → Written grid was is at cell
-      → ((r c : ℕ) → r < grid.rows → c < grid.columns → by r c → at r c)
-      → ((r c : ℕ) → r < grid.rows → c < grid.columns → at r c → by r c)
-      → Written grid was is by cell
-  renamed s to from = record {
-    long = s.long;
-    written = λ r c d hr hc h. s.written r c d hr hc (to r c hr hc h);
-    kept = λ r c d hr hc no. s.kept r c d hr hc (λ h. no (from r c hr hc h));
-    others = s.others;
   }

@@ -1,11 +1,11 @@
 // A cell read through a layout, and the layout of some rows of a dense table.
-ghost use Rattle.std.specs.Prelude.{◌≡◌, ◌*◌, ◌≤◌, length, Decides};
+ghost use Rattle.std.specs.Prelude.{◌≡◌, ◌*◌, ◌≤◌, length, Decides, IfOk};
 ghost use Rattle.layout.specs.Cells.{Read};
 ghost use Rattle.layout.specs.Checks.{Checked, Passes};
 ghost use Rattle.layout.specs.Picked.{Below, Once, picked, picked_lawful, picked_rules};
 
 use super::refusal::Refusal;
-use super::storage::Layout;
+use super::storage::{Layout, read};
 use super::vec_storage::Dense;
 
 // Reads a cell of a buffer; None outside the shape, or if the buffer ends before the span.
@@ -14,7 +14,7 @@ pub fn get<L: Layout, T: Copy>(layout: &L, buffer: &[T], row: u32, column: u32) 
 {
     let (rows, columns) = layout.shape();
     if row < rows && column < columns && layout.span() as usize <= buffer.len() {
-        Some(buffer[layout.place(row, column) as usize])
+        Some(read(layout, buffer, row, column))
     } else {
         None
     }
@@ -37,15 +37,11 @@ pub struct Picked<'a> {
 pub fn all_below(list: &[u32], count: u32) -> bool
     ensures { Decides result (Below list.now count) }
 {
-    for line in list {
-        if *line >= count {
-            return false;
-        }
-    }
-    true
+    list.iter().all(|line| *line < count)
 }
 
 // Whether no row is listed twice. Clears 4,096 marks, then takes one step for each listed row, not one for each pair.
+// A `for`, as a step both reads a mark and sets it.
 fn all_once(list: &[u32]) -> bool
     requires { Below list.now 4096 }
     ensures { Decides result (Once list.now) }
@@ -63,8 +59,9 @@ fn all_once(list: &[u32]) -> bool
 
 impl<'a> Picked<'a> {
     // Puts questions 2, 3, 4 and 13.
-    pub fn check(list: &[u32], rows: u32, columns: u32) -> Result<(), Refusal>
-        ensures { Checked (picked_rules list.now rows columns) result }
+    pub fn new(list: &'a [u32], rows: u32, columns: u32) -> Result<Picked<'a>, Refusal>
+        ensures answer { Checked (picked_rules list.now rows columns) result }
+        ensures made { IfOk result (λ p. (p.list.now ≡ list.now) × (p.rows ≡ rows) × (p.columns ≡ columns)) }
     {
         if !all_below(list, rows) {
             return Err(Refusal::NoSuchLine);
@@ -76,26 +73,30 @@ impl<'a> Picked<'a> {
         if !all_once(list) {
             return Err(Refusal::CellsMeet);
         }
-        Ok(())
+        Ok(Picked {
+            list,
+            rows,
+            columns,
+        })
     }
 
-    // The layout, or 0 × 0 where the check refuses.
+    // Whether the layout can be made, and why not.
+    pub fn check(list: &[u32], rows: u32, columns: u32) -> Result<(), Refusal>
+        ensures { Checked (picked_rules list.now rows columns) result }
+    {
+        Picked::new(list, rows, columns).map(|_| ())
+    }
+
+    // The layout, or 0 × 0 where it is refused.
     pub fn make(list: &'a [u32], rows: u32, columns: u32) -> Picked<'a>
         ensures made { Passes (picked_rules list.now rows columns) → (result.list.now ≡ list.now) × (result.rows ≡ rows) × (result.columns ≡ columns) }
         ensures refused { (Passes (picked_rules list.now rows columns) → ⊥) → (length result.list.now ≡ 0) × (result.rows ≡ 0) × (result.columns ≡ 0) }
     {
-        let Ok(()) = Picked::check(list, rows, columns) else {
-            return Picked {
-                list: &list[0..0],
-                rows: 0,
-                columns: 0,
-            };
-        };
-        Picked {
-            list,
-            rows,
-            columns,
-        }
+        Picked::new(list, rows, columns).unwrap_or(Picked {
+            list: &[],
+            rows: 0,
+            columns: 0,
+        })
     }
 }
 

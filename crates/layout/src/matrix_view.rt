@@ -1,9 +1,9 @@
 // Parts of a buffer seen as tables: the layout with steps, and a column of a dense one.
-ghost use Rattle.std.specs.Prelude.{◌≡◌, ◌*◌, ◌≤◌, length, take, drop, IfOk};
+ghost use Rattle.std.specs.Prelude.{◌≡◌, ◌*◌, ◌≤◌, length, take, drop, Decides, IfOk};
 ghost use Rattle.layout.specs.Cells.{column_rules};
 ghost use Rattle.layout.specs.Checks.{Checked, Passes};
 ghost use Rattle.layout.specs.Lawful.{dense};
-ghost use Rattle.layout.specs.Strided.{Apart, strided, strided_lawful, strided_rules, strided_span};
+ghost use Rattle.layout.specs.Strided.{Apart, Ends, strided, strided_lawful, strided_rules, strided_span};
 
 use super::refusal::Refusal;
 use super::storage::Layout;
@@ -36,8 +36,48 @@ fn span_of(rows: u32, columns: u32, first: u32, row_step: u32, column_step: u32)
     u64::from(first) + down + across + 1
 }
 
+// Whether a line of n cells, a step apart, ends before the next line begins, which is one long step on.
+fn ends(step: u32, long_step: u32, n: u32) -> bool
+    ensures { Decides result (Ends step long_step n) }
+{
+    step >= 1 && u64::from(n.saturating_sub(1)) * u64::from(step) + 1 <= u64::from(long_step)
+}
+
 impl Strided {
     // Puts questions 3, 4 and 13.
+    pub fn new(
+        rows: u32,
+        columns: u32,
+        first: u32,
+        row_step: u32,
+        column_step: u32,
+    ) -> Result<Strided, Refusal>
+        ensures answer { Checked (strided_rules first row_step column_step rows columns) result }
+        ensures made { IfOk result (λ s. (s.rows ≡ rows) × (s.columns ≡ columns) × (s.first ≡ first) × (s.row_step ≡ row_step) × (s.column_step ≡ column_step)) }
+    {
+        if rows > 4096 || columns > 4096 {
+            return Err(Refusal::TooManyLines);
+        }
+        if span_of(rows, columns, first, row_step, column_step) > 65536 {
+            return Err(Refusal::TooManyCells);
+        }
+        let apart = rows == 0
+            || columns == 0
+            || ends(row_step, column_step, rows)
+            || ends(column_step, row_step, columns);
+        if !apart {
+            return Err(Refusal::CellsMeet);
+        }
+        Ok(Strided {
+            rows,
+            columns,
+            first,
+            row_step,
+            column_step,
+        })
+    }
+
+    // Whether the layout can be made, and why not.
     pub fn check(
         rows: u32,
         columns: u32,
@@ -47,47 +87,22 @@ impl Strided {
     ) -> Result<(), Refusal>
         ensures { Checked (strided_rules first row_step column_step rows columns) result }
     {
-        if rows > 4096 || columns > 4096 {
-            return Err(Refusal::TooManyLines);
-        }
-        if span_of(rows, columns, first, row_step, column_step) > 65536 {
-            return Err(Refusal::TooManyCells);
-        }
-        if rows == 0 || columns == 0 {
-            return Ok(());
-        }
-        let down = u64::from(rows - 1) * u64::from(row_step) + 1;
-        if row_step >= 1 && u64::from(column_step) >= down {
-            return Ok(());
-        }
-        let across = u64::from(columns - 1) * u64::from(column_step) + 1;
-        if column_step >= 1 && u64::from(row_step) >= across {
-            return Ok(());
-        }
-        Err(Refusal::CellsMeet)
+        Strided::new(rows, columns, first, row_step, column_step).map(|_| ())
     }
 
-    // The layout, or 0 × 0 where the check refuses.
+    // The layout, or 0 × 0 where it is refused.
     pub fn make(rows: u32, columns: u32, first: u32, row_step: u32, column_step: u32) -> Strided
         ensures made { Passes (strided_rules first row_step column_step rows columns) → (result.rows ≡ rows) × (result.columns ≡ columns) × (result.first ≡ first) × (result.row_step ≡ row_step) × (result.column_step ≡ column_step) }
         ensures refused { (Passes (strided_rules first row_step column_step rows columns) → ⊥) → (result.rows ≡ 0) × (result.columns ≡ 0) × (result.first ≡ 0) × (result.row_step ≡ 0) × (result.column_step ≡ 0) }
     {
-        let Ok(()) = Strided::check(rows, columns, first, row_step, column_step) else {
-            return Strided {
-                rows: 0,
-                columns: 0,
-                first: 0,
-                row_step: 0,
-                column_step: 0,
-            };
+        let empty = Strided {
+            rows: 0,
+            columns: 0,
+            first: 0,
+            row_step: 0,
+            column_step: 0,
         };
-        Strided {
-            rows,
-            columns,
-            first,
-            row_step,
-            column_step,
-        }
+        Strided::new(rows, columns, first, row_step, column_step).unwrap_or(empty)
     }
 }
 
@@ -101,13 +116,13 @@ impl Layout for Strided {
     }
 
     fn span(&self) -> u32 {
-        if self.rows == 0 || self.columns == 0 {
-            0
-        } else {
-            let down = (self.rows - 1) * self.row_step;
-            let across = (self.columns - 1) * self.column_step;
-            self.first + down + across + 1
-        }
+        span_of(
+            self.rows,
+            self.columns,
+            self.first,
+            self.row_step,
+            self.column_step,
+        ) as u32
     }
 
     fn place(&self, row: u32, column: u32) -> u32 {

@@ -3,6 +3,7 @@ ghost use Rattle.std.specs.Prelude.{◌≡◌, ◌+◌, ◌*◌, ◌<◌, ◌≤
 ghost use Rattle.layout.specs.Cells.{Cloned, ColumnCloned, clone_rules};
 ghost use Rattle.layout.specs.Checks.{Checked};
 ghost use Rattle.layout.specs.Lawful.{Grid, Lawful};
+ghost use Rattle.layout.specs.Written.{Written, cell_of};
 
 use super::refusal::Refusal;
 
@@ -27,7 +28,27 @@ pub trait Layout {
         ensures beside { (grid self.now).columns ≤ column → result ≡ (grid self.now).span };
 }
 
+// The cell of a row and a column, in a buffer that reaches the span.
+pub fn read<L: Layout, T: Copy>(layout: &L, buffer: &[T], row: u32, column: u32) -> T
+    requires inside { (row < (L.grid layout.now).rows) × (column < (L.grid layout.now).columns) }
+    requires fits { (L.grid layout.now).span ≤ length buffer.now }
+    ensures { (d : T) → cell_of (L.grid layout.now) buffer.now row column d ≡ result }
+{
+    buffer[layout.place(row, column) as usize]
+}
+
+// Writes that cell.
+pub fn write<L: Layout, T: Copy>(layout: &L, buffer: &mut [T], row: u32, column: u32, v: T)
+    requires inside { (row < (L.grid layout.now).rows) × (column < (L.grid layout.now).columns) }
+    requires fits { (L.grid layout.now).span ≤ length buffer.old }
+    ensures { Written (L.grid layout.now) buffer.old buffer.new (λ r c. (r ≡ row) × (c ≡ column)) (λ r c d. v) }
+{
+    let place = layout.place(row, column) as usize;
+    buffer[place] = v;
+}
+
 // Copies one column of a layout's table to its place in a dense one.
+// By index: of a part of `cells` that was lent out, a proof knows only the length afterwards.
 fn clone_column<L: Layout, T: Copy>(
     layout: &L,
     source: &[T],
@@ -41,8 +62,7 @@ fn clone_column<L: Layout, T: Copy>(
 {
     let first = column as usize * rows as usize;
     for r in 0..rows {
-        let place = layout.place(r, column) as usize;
-        cells[first + r as usize] = source[place];
+        cells[first + r as usize] = read(layout, source, r, column);
     }
 }
 

@@ -1,5 +1,5 @@
 // The dense layout: column by column, with no gap.
-ghost use Rattle.std.specs.Prelude.{◌≡◌, ◌*◌, ◌≤◌};
+ghost use Rattle.std.specs.Prelude.{◌≡◌, ◌*◌, ◌≤◌, IfOk};
 ghost use Rattle.layout.specs.Checks.{Checked, Passes, dense_rules};
 ghost use Rattle.layout.specs.Lawful.{dense};
 ghost use Rattle.layout.specs.Dense.{dense_lawful};
@@ -18,8 +18,9 @@ pub struct Dense {
 
 impl Dense {
     // Puts questions 3 and 4.
-    pub fn check(rows: u32, columns: u32) -> Result<(), Refusal>
-        ensures { Checked (dense_rules rows columns) result }
+    pub fn new(rows: u32, columns: u32) -> Result<Dense, Refusal>
+        ensures answer { Checked (dense_rules rows columns) result }
+        ensures made { IfOk result (λ d. (d.rows ≡ rows) × (d.columns ≡ columns)) }
     {
         if rows > 4096 || columns > 4096 {
             return Err(Refusal::TooManyLines);
@@ -27,21 +28,25 @@ impl Dense {
         if rows * columns > 65536 {
             return Err(Refusal::TooManyCells);
         }
-        Ok(())
+        Ok(Dense { rows, columns })
     }
 
-    // The layout, or 0 × 0 where the check refuses.
+    // Whether the layout can be made, and why not.
+    pub fn check(rows: u32, columns: u32) -> Result<(), Refusal>
+        ensures { Checked (dense_rules rows columns) result }
+    {
+        Dense::new(rows, columns).map(|_| ())
+    }
+
+    // The layout, or 0 × 0 where it is refused.
     pub fn make(rows: u32, columns: u32) -> Dense
         ensures made { Passes (dense_rules rows columns) → (result.rows ≡ rows) × (result.columns ≡ columns) }
         ensures refused { (Passes (dense_rules rows columns) → ⊥) → (result.rows ≡ 0) × (result.columns ≡ 0) }
     {
-        match Dense::check(rows, columns) {
-            Ok(()) => Dense { rows, columns },
-            Err(_) => Dense {
-                rows: 0,
-                columns: 0,
-            },
-        }
+        Dense::new(rows, columns).unwrap_or(Dense {
+            rows: 0,
+            columns: 0,
+        })
     }
 }
 

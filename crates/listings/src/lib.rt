@@ -10,7 +10,7 @@ ghost use Rattle.journal.specs.Asking.{Fits};
 ghost use Rattle.journal.specs.Answering.{Answers, Held};
 ghost use Rattle.listings.specs.Cut.{Cut, Own};
 
-use journal::parts::{Note, Parts, Run};
+use journal::parts::{NO_RUN, Note, Parts, Run};
 use journal::questions::ask;
 use layout::refusal::Refusal;
 use layout::side::Side;
@@ -32,11 +32,6 @@ fn cut_lines<T: Copy>(p: &mut Parts<'_, T>, side: Side, own: &[Run], gone: u32)
     p.runs.extend_from_slice(own);
     p.entries.push(entry);
 }
-
-const NO_RUN: Run = Run {
-    offset: 0,
-    length: 0,
-};
 
 // Takes out each line that the list names, once; an index beyond the lines is passed over.
 pub fn remove_lines_at<T: Copy>(

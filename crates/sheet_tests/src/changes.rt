@@ -1,14 +1,14 @@
 use self::Call::*;
-use super::tests::{Marked, NO_ENTRY, NO_RUN, note, same_marks};
-use journal::parts::{Entry, Run};
+use journal::parts::{Entry, NO_ENTRY, NO_RUN, Run};
 use layout::refusal::Refusal;
 use layout::storage::Layout;
 use layout::vec_storage::Dense;
+use marked::{Marked, note, same_marks};
 use sheet::sheet::Sheet;
 use std::process::Abort;
 
 #[derive(Clone, Copy)]
-enum Call<'c> {
+pub(crate) enum Call<'c> {
     InsertRows(u32, u32, u32),
     InsertColumns(u32, u32, u32),
     RemoveRows(u32, u32),
@@ -45,7 +45,10 @@ fn same_runs(rt: &impl Abort, runs: &[Run], pairs: &[(u32, u32)]) {
     }
 }
 
-fn play<T: Copy + Marked>(sheet: &mut Sheet<'_, T>, call: Call<'_>) -> Result<(), Refusal> {
+pub(crate) fn play<T: Copy + Marked>(
+    sheet: &mut Sheet<'_, T>,
+    call: Call<'_>,
+) -> Result<(), Refusal> {
     match call {
         Call::InsertRows(i, n, v) => sheet.insert_rows(i, n, T::of(v)),
         Call::InsertColumns(i, n, v) => sheet.insert_columns(i, n, T::of(v)),

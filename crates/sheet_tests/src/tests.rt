@@ -1,94 +1,21 @@
-use journal::parts::{Entry, Note, Run};
-use layout::side::Side;
+use super::changes::{Call, play};
+use journal::parts::{NO_ENTRY, NO_RUN, Run};
 use layout::refusal::Refusal;
 use layout::storage::Layout;
 use layout::vec_storage::Dense;
-use sheet::cell::WeighingNote;
+use marked::{Marked, note, same_marks};
 use sheet::sheet::Sheet;
 use std::process::Abort;
-
-// A kind of cell that a number can be written into and read out of again.
-pub(crate) trait Marked {
-    fn of(n: u32) -> Self;
-
-    fn mark(&self) -> u32;
-}
-
-impl Marked for u32 {
-    fn of(n: u32) -> u32 {
-        n
-    }
-
-    fn mark(&self) -> u32 {
-        *self
-    }
-}
-
-// A note whose parts do not belong together has the mark 999.
-impl Marked for WeighingNote {
-    fn of(n: u32) -> WeighingNote {
-        WeighingNote {
-            ticket: n,
-            kilograms: n ^ 1000,
-            quality: (n % 26) as u8 + b'a',
-        }
-    }
-
-    fn mark(&self) -> u32 {
-        if self.kilograms == self.ticket ^ 1000
-            && u32::from(self.quality) == self.ticket % 26 + 97
-        {
-            self.ticket
-        } else {
-            999
-        }
-    }
-}
-
-#[derive(Clone, Copy)]
-enum Call {
-    Remove(Side, u32, u32),
-    Insert(Side, u32, u32, u32),
-}
 
 // A call on the 3 × 2 table stored 1 2 3 4 5 6: its answer, and the shape, cells, saved cells and runs after it.
 #[derive(Clone, Copy)]
 struct Example<'e> {
-    call: Call,
+    call: Call<'e>,
     answer: Result<(), Refusal>,
     shape: (u32, u32),
     cells: &'e [u32],
     saved: &'e [u32],
     runs: &'e [Run],
-}
-
-pub(crate) const NO_ENTRY: Entry = Entry {
-    note: Note::Removal(Side::Rows, 0, 0),
-    rows: 0,
-    columns: 0,
-    runs: 0,
-    cells: 0,
-};
-
-pub(crate) const NO_RUN: Run = Run {
-    offset: 0,
-    length: 0,
-};
-
-pub(crate) fn same_marks<T: Marked>(rt: &impl Abort, cells: &[T], marks: &[u32]) {
-    assert_eq!(rt; cells.len(), marks.len());
-    for (cell, mark) in cells.iter().zip(marks) {
-        assert_eq!(rt; cell.mark(), *mark);
-    }
-}
-
-fn play<T: Copy + Marked>(sheet: &mut Sheet<'_, T>, call: &Call) -> Result<(), Refusal> {
-    match call {
-        Call::Remove(Side::Rows, i, n) => sheet.remove_rows(*i, *n),
-        Call::Remove(Side::Columns, i, n) => sheet.remove_columns(*i, *n),
-        Call::Insert(Side::Rows, i, n, v) => sheet.insert_rows(*i, *n, T::of(*v)),
-        Call::Insert(Side::Columns, i, n, v) => sheet.insert_columns(*i, *n, T::of(*v)),
-    }
 }
 
 fn holds<T: Copy + Marked>(
@@ -108,16 +35,12 @@ fn holds<T: Copy + Marked>(
         &mut runs,
         saved,
     );
-    assert_eq!(rt; play(&mut sheet, &e.call), e.answer);
+    assert_eq!(rt; play(&mut sheet, e.call), e.answer);
     assert_eq!(rt; sheet.shape(), e.shape);
     same_marks(rt, sheet.cells(), e.cells);
     same_marks(rt, sheet.saved(), e.saved);
     assert_eq!(rt; sheet.runs(), e.runs);
     assert_eq!(rt; sheet.entries().len(), if e.answer.is_ok() { 1 } else { 0 });
-}
-
-pub(crate) fn note(n: u32) -> WeighingNote {
-    WeighingNote::of(n)
 }
 
 #[test]
@@ -133,7 +56,7 @@ fn worked_tables(rt: HostRuntime) {
     }];
     let examples = [
         Example {
-            call: Call::Remove(Side::Rows, 1, 1),
+            call: Call::RemoveRows(1, 1),
             answer: Ok(()),
             shape: (2, 2),
             cells: &[1, 3, 4, 6],
@@ -141,7 +64,7 @@ fn worked_tables(rt: HostRuntime) {
             runs: at_1,
         },
         Example {
-            call: Call::Remove(Side::Rows, 3, 0),
+            call: Call::RemoveRows(3, 0),
             answer: Ok(()),
             shape: (3, 2),
             cells: table,
@@ -149,7 +72,7 @@ fn worked_tables(rt: HostRuntime) {
             runs: &[],
         },
         Example {
-            call: Call::Remove(Side::Rows, 3, 1),
+            call: Call::RemoveRows(3, 1),
             answer: Err(Refusal::NoSuchLine),
             shape: (3, 2),
             cells: table,
@@ -157,7 +80,7 @@ fn worked_tables(rt: HostRuntime) {
             runs: &[],
         },
         Example {
-            call: Call::Remove(Side::Rows, 0, 3),
+            call: Call::RemoveRows(0, 3),
             answer: Err(Refusal::SavedFull),
             shape: (3, 2),
             cells: table,
@@ -165,7 +88,7 @@ fn worked_tables(rt: HostRuntime) {
             runs: &[],
         },
         Example {
-            call: Call::Remove(Side::Columns, 0, 1),
+            call: Call::RemoveColumns(0, 1),
             answer: Ok(()),
             shape: (3, 1),
             cells: &[4, 5, 6],
@@ -173,7 +96,7 @@ fn worked_tables(rt: HostRuntime) {
             runs: at_0,
         },
         Example {
-            call: Call::Insert(Side::Rows, 3, 1, 8),
+            call: Call::InsertRows(3, 1, 8),
             answer: Ok(()),
             shape: (4, 2),
             cells: &[1, 2, 3, 8, 4, 5, 6, 8],
@@ -181,7 +104,7 @@ fn worked_tables(rt: HostRuntime) {
             runs: &[],
         },
         Example {
-            call: Call::Insert(Side::Columns, 1, 1, 0),
+            call: Call::InsertColumns(1, 1, 0),
             answer: Ok(()),
             shape: (3, 3),
             cells: &[1, 2, 3, 0, 0, 0, 4, 5, 6],
@@ -189,7 +112,7 @@ fn worked_tables(rt: HostRuntime) {
             runs: &[],
         },
         Example {
-            call: Call::Insert(Side::Columns, 3, 0, 0),
+            call: Call::InsertColumns(3, 0, 0),
             answer: Err(Refusal::NoSuchLine),
             shape: (3, 2),
             cells: table,
@@ -197,7 +120,7 @@ fn worked_tables(rt: HostRuntime) {
             runs: &[],
         },
         Example {
-            call: Call::Insert(Side::Rows, 0, 2, 0),
+            call: Call::InsertRows(0, 2, 0),
             answer: Err(Refusal::TooManyCells),
             shape: (3, 2),
             cells: table,
@@ -205,7 +128,7 @@ fn worked_tables(rt: HostRuntime) {
             runs: &[],
         },
         Example {
-            call: Call::Insert(Side::Rows, 0, 4094, 0),
+            call: Call::InsertRows(0, 4094, 0),
             answer: Err(Refusal::TooManyLines),
             shape: (3, 2),
             cells: table,

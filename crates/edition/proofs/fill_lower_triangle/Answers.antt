@@ -1,10 +1,6 @@
 use Rattle.std.proofs.Common.{◌+◌, refl, arith}
-use Rattle.layout.proofs.Writing.{nothing_written, renamed}
 use Rattle.edition.proofs.Filling.{columns_more}
 use Rattle.edition.proofs.fill_lower_triangle.Goals as goal
-
-pub loop-c-init : goal.loop-c-init
-loop-c-init g c = nothing_written _ _ _ _ (λ r c p q h. omega (arith, h.0))
 
 pub loop-c-preserved : goal.loop-c-preserved
 loop-c-preserved g c =
@@ -13,10 +9,3 @@ loop-c-preserved g c =
     columns_more (g.L.Layout.grid s) c.args.buffer.now c.loop-c.buffer c.fill_column_from.new.buffer _
     (λ z. z + c.args.s) c.loop-c.c c.saturating_add.result _
     (λ r h. (λ k. omega arith, λ k. omega arith)) c.loop-c.invariant c.fill_column_from.ensures (λ r k d p q h. refl)
-
-pub returns : goal.returns
-returns g c =
-    record {
-      answer = (omega arith, tt);
-      after = renamed _ c.loop-c.invariant (λ r k p q h. (omega arith, h)) (λ r k p q h. h.1);
-    }

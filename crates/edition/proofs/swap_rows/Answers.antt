@@ -1,10 +1,6 @@
 use Rattle.std.proofs.Common.{arith}
-use Rattle.layout.proofs.Writing.{nothing_written, renamed}
 use Rattle.edition.proofs.Swapping.{swapped_more}
 use Rattle.edition.proofs.swap_rows.Goals as goal
-
-pub loop-column-init : goal.loop-column-init
-loop-column-init g c = nothing_written _ _ _ _ (λ r c p q h. omega (arith, h.1))
 
 pub swap-requires : goal.swap-requires
 swap-requires g c =
@@ -23,10 +19,3 @@ loop-column-preserved g c =
     c.loop-column.column c.place-p.result c.place-q.result (omega arith)
     (c.place-p.ensures.inside (omega arith) (omega arith)) (c.place-q.ensures.inside (omega arith) (omega arith))
     (record { long = c.swap.ensures.len; there = e.0; back = e.1; rest = e.2 }) c.loop-column.invariant
-
-pub returns : goal.returns
-returns g c =
-    record {
-      answer = ((omega arith, omega arith), (omega arith, tt));
-      after = renamed _ c.loop-column.invariant (λ r k p q h. (h, omega arith)) (λ r k p q h. h.0);
-    }

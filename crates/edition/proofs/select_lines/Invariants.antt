@@ -1,7 +1,7 @@
 use Rattle.std.proofs.Common.{◌<◌, get_or}
 use Rattle.layout.specs.Written.{Written, cell_of}
 use Rattle.edition.specs.Selections.{spread}
-use Rattle.edition.proofs.copy_lines.Given as goal
+use Rattle.edition.proofs.select_lines.Given as goal
 
 abbrev pub invariant-loop-k : goal.invariant-loop-k
 invariant-loop-k g l =

@@ -1,0 +1,78 @@
+// Cells for the tests: a number is written into a cell of either kind, and read out of it again.
+#![tactic(auto)]
+
+ghost use Rattle.std.specs.Prelude.{◌≡◌, ℕ, map};
+ghost use Rattle.marked.specs.Notes.{note_mark, note_of};
+
+use sheet::cell::WeighingNote;
+use std::process::Abort;
+
+// A kind of cell that a number can be written into and read out of again.
+pub trait Marked {
+    ghost cell_of: { ℕ → Self };
+
+    ghost mark_of: { Self → ℕ };
+
+    fn of(n: u32) -> Self
+        ensures written { result ≡ cell_of n }
+        ensures read { mark_of result ≡ n };
+
+    fn mark(&self) -> u32
+        ensures { result ≡ mark_of self.now };
+}
+
+impl Marked for u32 {
+    ghost cell_of = { λ n. n };
+
+    ghost mark_of = { λ n. n };
+
+    fn of(n: u32) -> u32 {
+        n
+    }
+
+    fn mark(&self) -> u32 {
+        *self
+    }
+}
+
+// A note whose parts do not belong together has the mark 999.
+impl Marked for WeighingNote {
+    ghost cell_of = { note_of };
+
+    ghost mark_of = { note_mark };
+
+    fn of(n: u32) -> WeighingNote {
+        WeighingNote {
+            ticket: n,
+            kilograms: n ^ 1000,
+            quality: (n % 26) as u8 + b'a',
+        }
+    }
+
+    fn mark(&self) -> u32 {
+        if self.kilograms == self.ticket ^ 1000
+            && u32::from(self.quality) == self.ticket % 26 + 97
+        {
+            self.ticket
+        } else {
+            999
+        }
+    }
+}
+
+// The note of a number.
+pub fn note(n: u32) -> WeighingNote
+    ensures { result ≡ note_of n }
+{
+    WeighingNote::of(n)
+}
+
+// Stops unless the cells have these marks.
+pub fn same_marks<T: Marked>(rt: &impl Abort, cells: &[T], marks: &[u32])
+    ensures { map (λ cell. T.mark_of cell) cells.now ≡ marks.now }
+{
+    assert_eq!(rt; cells.len(), marks.len());
+    for (cell, mark) in cells.iter().zip(marks) {
+        assert_eq!(rt; cell.mark(), *mark);
+    }
+}
