@@ -17,14 +17,15 @@ module _ (f : ℕ → List ℕ) (n : ℕ) (old all : List ℕ) where
   none_left r h k =
       sym (append-nil old) ∙ ap (λ z. old ++ flat_map f (range_with_len r z)) (let z : 0 ≡ n - r = omega arith in z) ∙ k
 
--- one line more is obeyed
+-- one line more is obeyed, of number k
 pub line_more :
-    (s t : State) (number : ℕ) (line : List ℕ) (lines before : List (List ℕ)) (old new all : List ℕ) → before ≡ line ∷ lines
-    → t ≡ (obeyed s number (decided line)).0 → new ≡ old ++ (obeyed s number (decided line)).1
-    → old ++ transcript s number before ≡ all → new ++ transcript t (number + 1) lines ≡ all
-line_more s t number line lines before old new all e f g k =
-    let z = obeyed s number (decided line) in
-    ap₂ (λ x y. x ++ transcript y (number + 1) lines) g f
-    ∙ append_assoc old z.1 (transcript z.0 (number + 1) lines)
-    ∙ ap (λ x. old ++ transcript s number x) (sym e)
-    ∙ k
+    (s t : State) (n k m : ℕ) (line : List ℕ) (lines before : List (List ℕ)) (old new all : List ℕ) → k ≡ n → m ≡ n + 1 → before ≡ line ∷ lines
+    → t ≡ (obeyed s k (decided line)).0 → new ≡ old ++ (obeyed s k (decided line)).1
+    → old ++ transcript s n before ≡ all → new ++ transcript t m lines ≡ all
+line_more s t n k m line lines before old new all ek em e f g h =
+    let z = obeyed s n (decided line) in
+    ap₂ (λ x y. x ++ transcript y m lines) g f
+    ∙ ap₂ (λ k m. old ++ (obeyed s k (decided line)).1 ++ transcript (obeyed s k (decided line)).0 m lines) ek em
+    ∙ append_assoc old z.1 (transcript z.0 (n + 1) lines)
+    ∙ ap (λ x. old ++ transcript s n x) (sym e)
+    ∙ h
