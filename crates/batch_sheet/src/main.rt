@@ -6,7 +6,6 @@ use layout::side::Side;
 use layout::vec_storage::Dense;
 use session::state::{Lines, Session};
 use sheet::sheet::Sheet;
-use std::io;
 use std::io::{Read, Write};
 
 // So much of the input is read, and no more.
