@@ -84,7 +84,7 @@ fn write_row(out: &mut Vec<u8>, cells: &[u32], rows: u32, columns: u32, row: u32
     if columns > 0 {
         write!(out, "{}", cell(cells, rows, row, 0))?;
     }
-    // After `try_for_each` a proof would know nothing of what its closure wrote.
+    // With `try_for_each` the goal stayed open: its closure writes to `out`.
     for column in 1..columns {
         write!(out, " {}", cell(cells, rows, row, column))?;
     }
