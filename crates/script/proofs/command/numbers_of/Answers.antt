@@ -1,6 +1,5 @@
-use Rattle.std.proofs.Common.{length, sym, ap, ◌∙◌, arith}
+use Rattle.std.proofs.Common.{length, sym, ap, ◌∙◌, arith, rules}
 use Rattle.std.specs.Option.{option_map}
-use Rattle.std.proofs.lemmas.Grind.{common_steps}
 use Rattle.script.specs.Tokens.{part_of}
 use Rattle.script.specs.Words.{further}
 use Rattle.script.proofs.Listing.{Next, next_word, left_room, left_more, left_bad}
@@ -16,9 +15,7 @@ returns-in_err-at c =
     let n = next (goal.at.returns-in_err-at c).In-Some in
     let bad = left_bad _ _ _ _ _ _ n.first c.loop-token.invariant (sym c.in_err-at.ensures.ok_part ∙ c.value.ensures ∙ n.value) in
     let e = c.in_err-at.ensures.value in
-    let r = c.from_residual.ensures in
-    let o = c.in_err-at.ensures.ok_part in
-    grind (arith, common_steps)
+    search rules
 
 pub bounds-at-count : goal.bounds-at-count
 bounds-at-count c = left_room _ _ _ _ _ _ (next (goal.at.bounds-at-count c).In-Some).first c.loop-token.invariant
