@@ -1,9 +1,9 @@
 -- The bytes that are written of answers and rows.
-use Rattle.std.specs.Prelude.{ℕ, cond, ◌&&◌, List, [], ◌∷◌, ◌++◌, codes, decimal, nat_le}
+use Rattle.std.specs.Prelude.{ℕ, cond, ◌&&◌, List, [], ◌∷◌, ◌++◌, Ok, Err, Result, codes, decimal, nat_le}
 use Rattle.layout.specs.declared.refusal.Refusal.{Refusal}
 use Rattle.layout.specs.Refusals.{number_of}
-use Rattle.answers.specs.declared.answer.Answer.{Answer}
-use Rattle.answers.specs.declared.answer.Answer.TheVariants.{Done, Refused}
+use Rattle.answers.specs.declared.answer.Done.{Done}
+use Rattle.answers.specs.declared.answer.Refused.{Refused}
 
 -- t for the questions 14 to 16, j for 5 to 8, else s
 abbrev pub letter_for : ℕ → ℕ
@@ -25,6 +25,13 @@ abbrev pub row_text : List ℕ → List ℕ
 row_text [] = 10 ∷ []
 row_text (x ∷ xs) = decimal x ++ (spaced xs ++ 10 ∷ [])
 
+-- what is said of a shape and of a no, before the line feed
+abbrev pub shape_words : ℕ → ℕ → List ℕ
+shape_words rows columns = codes "ok" ++ (field rows ++ field columns)
+
+abbrev pub no_words : ℕ → ℕ → Refusal → List ℕ
+no_words line word r = codes "no" ++ (field line ++ (field word ++ (32 ∷ letter_of r ∷ field (number_of r))))
+
 abbrev pub done_text : ℕ → ℕ → List ℕ
 done_text rows columns = codes "ok" ++ (field rows ++ (field columns ++ 10 ∷ []))
 
@@ -35,6 +42,6 @@ no_text line word k = codes "no" ++ (field line ++ (field word ++ (32 ∷ letter
 abbrev pub refused_text : ℕ → ℕ → Refusal → List ℕ
 refused_text line word r = no_text line word (number_of r)
 
-abbrev pub answer_text : Answer → List ℕ
-answer_text (Done rows columns) = done_text rows columns
-answer_text (Refused line word r) = refused_text line word r
+abbrev pub answer_text : Result Done Refused → List ℕ
+answer_text (Ok d) = done_text d.rows d.columns
+answer_text (Err r) = refused_text r.line r.word r.refusal

@@ -1,97 +1,71 @@
 // Writes answers and rows as bytes.
-ghost use Rattle.std.specs.Prelude.{◌≡◌, ◌+◌, ◌-◌, ◌*◌, ◌++◌, map, decimal, OnOk, slice_index};
+ghost use Rattle.std.specs.Prelude.{◌≡◌, ◌+◌, ◌*◌, ◌++◌, Some, map, OnOk, slice_index};
 ghost use Rattle.std.specs.List.{range_with_len};
-ghost use Rattle.answers.specs.Answers.{letter_of, field, spaced, row_text, done_text, refused_text, answer_text};
+ghost use Rattle.answers.specs.Answers.{letter_of, row_text, shape_words, no_words, answer_text};
 
 use layout::refusal::Refusal;
 use std::alloc::AllocError;
+use std::io::Write;
+use std::{fmt, io};
 
-// What is said of a command: the sheet's size after it, or why it was refused, and at which line and word of the script.
+// The sheet's size after a command that was carried out.
 #[derive(Clone, Copy, Debug, PartialEq, Eq)]
-pub enum Answer {
-    Done {
-        rows: u32,
-        columns: u32,
-    },
-    Refused {
-        line: usize,
-        word: usize,
-        refusal: Refusal,
-    },
+pub struct Done {
+    pub rows: u32,
+    pub columns: u32,
 }
+
+// Why a command was refused, and at which line and word of the script.
+#[derive(Clone, Copy, Debug, PartialEq, Eq)]
+pub struct Refused {
+    pub line: usize,
+    pub word: usize,
+    pub refusal: Refusal,
+}
+
+// What is said of a command.
+pub type Answer = Result<Done, Refused>;
 
 // Who refuses: t, the text of the script, j, the journal, or s, the sheet.
 pub fn letter(refusal: Refusal) -> u8
     ensures { result ≡ letter_of refusal }
 {
-    match refusal.number() {
-        14..=16 => b't',
-        5..=8 => b'j',
+    match refusal {
+        Refusal::NoCommand | Refusal::BadNumber | Refusal::NoSheet => b't',
+        Refusal::JournalFull | Refusal::RunsFull | Refusal::SavedFull | Refusal::NothingToUndo =>
+            b'j',
         _ => b's',
     }
 }
 
-// Appends the decimal digits of a number.
-fn put_number(out: &mut Vec<u8>, n: u64) -> Result<(), AllocError>
-    ensures { OnOk result (out.new.items ≡ out.old.items ++ decimal n) }
-{
-    if n < 10 {
-        out.push(b'0' + n as u8)?;
-        return Ok(());
+impl fmt::Display for Done {
+    ghost output = { λ d. Some (shape_words d.rows d.columns) };
+
+    fn fmt<W: fmt::Write>(&self, f: &mut fmt::Formatter<W>) -> fmt::Result {
+        write!(f, "ok {} {}", self.rows, self.columns)
     }
-    put_number(out, n / 10)?;
-    out.push(b'0' + (n % 10) as u8)?;
-    Ok(())
 }
 
-// Appends a blank and a number.
-fn put_field(out: &mut Vec<u8>, n: u64) -> Result<(), AllocError>
-    ensures { OnOk result (out.new.items ≡ out.old.items ++ field n) }
-{
-    out.push(b' ')?;
-    put_number(out, n)?;
-    Ok(())
-}
+impl fmt::Display for Refused {
+    ghost output = { λ r. Some (no_words r.line r.word r.refusal) };
 
-fn put_done(out: &mut Vec<u8>, rows: u32, columns: u32) -> Result<(), AllocError>
-    ensures { OnOk result (out.new.items ≡ out.old.items ++ done_text rows columns) }
-{
-    out.extend_from_slice(b"ok")?;
-    put_field(out, u64::from(rows))?;
-    put_field(out, u64::from(columns))?;
-    out.push(b'\n')?;
-    Ok(())
-}
-
-fn put_refused(
-    out: &mut Vec<u8>,
-    line: usize,
-    word: usize,
-    refusal: Refusal,
-) -> Result<(), AllocError>
-    ensures { OnOk result (out.new.items ≡ out.old.items ++ refused_text line word refusal) }
-{
-    out.extend_from_slice(b"no")?;
-    put_field(out, line as u64)?;
-    put_field(out, word as u64)?;
-    out.extend_from_slice(&[b' ', letter(refusal)])?;
-    put_field(out, u64::from(refusal.number()))?;
-    out.push(b'\n')?;
-    Ok(())
+    fn fmt<W: fmt::Write>(&self, f: &mut fmt::Formatter<W>) -> fmt::Result {
+        let letter = letter(self.refusal) as char;
+        let number = self.refusal.number();
+        write!(f, "no {} {} {letter} {number}", self.line, self.word)
+    }
 }
 
 // Appends `ok ROWS COLUMNS` or `no LINE WORD LETTER NUMBER`, and a line feed.
 pub fn put_answer(out: &mut Vec<u8>, answer: Answer) -> Result<(), AllocError>
     ensures { OnOk result (out.new.items ≡ out.old.items ++ answer_text answer) }
 {
-    match answer {
-        Answer::Done { rows, columns } => put_done(out, rows, columns),
-        Answer::Refused {
-            line,
-            word,
-            refusal,
-        } => put_refused(out, line, word, refusal),
-    }
+    let written = match answer {
+        Ok(done) => writeln!(out, "{done}"),
+        Err(refused) => writeln!(out, "{refused}"),
+    };
+    // Writing to a `Vec` fails by memory alone.
+    written.map_err(|_| AllocError)
 }
 
 // The cell of a table that lies column by column, or 0 beyond the slice.
@@ -103,20 +77,18 @@ fn cell(cells: &[u32], rows: u32, row: u32, column: u32) -> u32
     cells.get(place).copied().unwrap_or(0)
 }
 
-// Appends the cells of a row but the first, each behind a blank.
-fn put_tail(
-    out: &mut Vec<u8>,
-    cells: &[u32],
-    rows: u32,
-    columns: u32,
-    row: u32,
-) -> Result<(), AllocError>
-    ensures { OnOk result (out.new.items ≡ out.old.items ++ spaced (map (λ c. slice_index cells.now (row + c * rows)) (range_with_len 1 (columns - 1)))) }
+// What `put_row` appends, with the error that a writer has.
+fn write_row(out: &mut Vec<u8>, cells: &[u32], rows: u32, columns: u32, row: u32) -> io::Result<()>
+    ensures { OnOk result (out.new.items ≡ out.old.items ++ row_text (map (λ c. slice_index cells.now (row + c * rows)) (range_with_len 0 columns))) }
 {
-    for column in 1..columns {
-        put_field(out, u64::from(cell(cells, rows, row, column)))?;
+    if columns > 0 {
+        write!(out, "{}", cell(cells, rows, row, 0))?;
     }
-    Ok(())
+    // With `try_for_each` the goal stayed open: its closure writes to `out`.
+    for column in 1..columns {
+        write!(out, " {}", cell(cells, rows, row, column))?;
+    }
+    writeln!(out)
 }
 
 // Appends a row of a table that lies column by column: its cells, parted by single blanks, and a line feed.
@@ -130,12 +102,5 @@ pub fn put_row(
 ) -> Result<(), AllocError>
     ensures { OnOk result (out.new.items ≡ out.old.items ++ row_text (map (λ c. slice_index cells.now (row + c * rows)) (range_with_len 0 columns))) }
 {
-    if columns == 0 {
-        out.push(b'\n')?;
-        return Ok(());
-    }
-    put_number(out, u64::from(cell(cells, rows, row, 0)))?;
-    put_tail(out, cells, rows, columns, row)?;
-    out.push(b'\n')?;
-    Ok(())
+    write_row(out, cells, rows, columns, row).map_err(|_| AllocError)
 }

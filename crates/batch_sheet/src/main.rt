@@ -1,17 +1,14 @@
 // Carries out a script from standard input on a sheet of weights, and prints what is said of each line.
 #![tactic(auto)]
 
-ghost use Rattle.std.specs.Prelude.{◌≤◌, length, IfOk};
-
 use journal::parts::{NO_ENTRY, NO_RUN};
 use layout::vec_storage::Dense;
 use session::state::{Lines, Session};
 use sheet::sheet::Sheet;
-use std::io;
 use std::io::{Read, Write};
 
 // So much of the input is read, and no more.
-const INPUT: usize = 65536;
+const INPUT: u64 = 65536;
 
 // The stores of the script's sheet.
 const CELLS: usize = 4096;
@@ -21,21 +18,6 @@ const ENTRIES: usize = 64;
 const RUNS: usize = 256;
 
 const SAVED: usize = 4096;
-
-// Reads up to the end of the input or of the page, and says how much was read.
-fn fill<R: Read>(input: &mut R, page: &mut [u8]) -> io::Result<usize>
-    ensures { IfOk result (λ n. n ≤ length page.old) }
-{
-    let mut n = 0;
-    while n < page.len() {
-        let got = input.read(&mut page[n..])?;
-        if got == 0 {
-            break;
-        }
-        n += got;
-    }
-    Ok(n)
-}
 
 // Obeys the script, and prints what is said of it whenever enough has come together.
 fn obey(rt: &HostRuntime, session: &mut Session<'_, '_>, script: &[u8]) -> anyhow::Result<()> {
@@ -50,8 +32,8 @@ fn obey(rt: &HostRuntime, session: &mut Session<'_, '_>, script: &[u8]) -> anyho
 }
 
 fn run(rt: &HostRuntime) -> anyhow::Result<()> {
-    let mut page = [0; INPUT];
-    let read = fill(&mut rt.stdin(), &mut page)?;
+    let mut script = Vec::new(rt.alloc());
+    rt.stdin().take(INPUT).read_to_end(&mut script)?;
     let mut cells = [0; CELLS];
     let mut entries = [NO_ENTRY; ENTRIES];
     let mut runs = [NO_RUN; RUNS];
@@ -65,7 +47,7 @@ fn run(rt: &HostRuntime) -> anyhow::Result<()> {
         &mut saved,
     );
     let mut session = Session::new(&mut sheet);
-    obey(rt, &mut session, &page[0..read])
+    obey(rt, &mut session, script.as_slice())
 }
 
 fn main(rt: HostRuntime) -> anyhow::Result<()> {

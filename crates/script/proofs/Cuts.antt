@@ -1,35 +1,40 @@
--- What a search for a byte keeps.
-use Rattle.std.proofs.Common.{◌≡◌, ℕ, ◌+◌, ◌-◌, ◌<◌, ◌≤◌, cond, List, [], ◌∷◌, ◌++◌, length, get_or, take, drop, Some, None, Option, sym, ap, ◌∙◌, append_assoc, append-nil}
-use Rattle.std.proofs.lemmas.List.{take_more, drop_more, take_all, drop_all, take_rest}
-use Rattle.std.proofs.lemmas.Bool.{eq-eqb, ne_eqb}
-use native.Mathlib.Nat.{sub-zero}
+-- What a search for a byte finds.
+use Rattle.std.proofs.Common.{◌≡◌, ℕ, suc, ◌+◌, ◌-◌, true, false, cond, not, eqb, ltb, List, [], ◌∷◌, length, take, drop, Some, None, Option, refl, sym, ap, ◌∙◌, arith}
+use Rattle.std.specs.List.{position, position_or_len}
+use Rattle.std.proofs.lemmas.List.{take_rest}
+use Rattle.std.proofs.lemmas.Bool.Decides.{nat_tests}
+use Rattle.std.proofs.lemmas.Grind.{common_steps}
 use Rattle.script.specs.Words.{front, behind}
 
--- c is not among the first i bytes
-pub record Past (c : ℕ) (bs : List ℕ) (i : ℕ) : Type 0 where
-  pub before : front c bs ≡ take i bs ++ front c (drop i bs)
-  pub after : behind c bs ≡ behind c (drop i bs)
+take_past : (b n : ℕ) (bs : List ℕ) → take (1 + n) (b ∷ bs) ≡ b ∷ take n bs
+take_past b n bs = ap (λ k. take k (b ∷ bs)) (let e : 1 + n ≡ suc n = omega arith in e)
 
-module _ (c : ℕ) (bs : List ℕ) (i : ℕ) where
-  pub past_more : i < length bs → (get_or bs i 0 ≡ c → ⊥) → Past c bs i → Past c bs (i + 1)
-  past_more h miss p =
-      let e = drop_more bs i 0 h in
-      let t = take_more bs i 0 h in
-      let one : front c (drop i bs) ≡ get_or bs i 0 ∷ front c (drop (i + 1) bs) = ap (front c) e ∙ ap (λ v. cond v [] (get_or bs i 0 ∷ front c (drop (i + 1) bs))) (ne_eqb _ _ miss) in
-      let two : behind c (drop i bs) ≡ behind c (drop (i + 1) bs) = ap (behind c) e ∙ ap (λ v. cond v (Some (drop (i + 1) bs)) (behind c (drop (i + 1) bs))) (ne_eqb _ _ miss) in
-      record {
-        before = p.before ∙ ap (λ l. take i bs ++ l) one ∙ sym (append_assoc (take i bs) (get_or bs i 0 ∷ []) _) ∙ ap (λ l. l ++ front c (drop (i + 1) bs)) (sym t);
-        after = p.after ∙ two;
-      }
+drop_past : (b n : ℕ) (bs : List ℕ) → drop (1 + n + 1) (b ∷ bs) ≡ drop (n + 1) bs
+drop_past b n bs = ap (λ k. drop k (b ∷ bs)) (let e : 1 + n + 1 ≡ suc (n + 1) = omega arith in e)
 
-  pub past_found : i < length bs → get_or bs i 0 ≡ c → Past c bs i → (take (i - 0) bs ≡ front c bs) × (◌≡◌ {A = Option (List ℕ)} (Some (take (length bs - (i + 1)) (drop (i + 1) bs))) (behind c bs))
-  past_found h hit p =
-      let e = drop_more bs i 0 h in
-      let one : front c (drop i bs) ≡ [] = ap (front c) e ∙ ap (λ v. cond v [] (get_or bs i 0 ∷ front c (drop (i + 1) bs))) (eq-eqb _ _ hit) in
-      let two : behind c (drop i bs) ≡ Some (drop (i + 1) bs) = ap (behind c) e ∙ ap (λ v. cond v (Some (drop (i + 1) bs)) (behind c (drop (i + 1) bs))) (eq-eqb _ _ hit) in
-      (ap (λ k. take k bs) (sub-zero i) ∙ sym (p.before ∙ ap (λ l. take i bs ++ l) one ∙ append-nil _), ap Some (take_rest bs (i + 1)) ∙ sym (p.after ∙ two))
+module _ (c : ℕ) where
+  front_is : (bs : List ℕ) → front c bs ≡ take (position_or_len (λ b. eqb b c) bs) bs
+  front_is [] = refl
+  front_is (b ∷ bs) =
+      elim (eqb b c) as (λ t. cond t [] (b ∷ front c bs) ≡ take (cond (not t) (1 + position_or_len (λ b. eqb b c) bs) 0) (b ∷ bs))
+      [ true ↦ refl | false ↦ ap (λ l. b ∷ l) (front_is bs) ∙ sym (take_past b _ bs) ]
 
-  pub past_all : length bs ≤ i → Past c bs i → (bs ≡ front c bs) × (◌≡◌ {A = Option (List ℕ)} None (behind c bs))
-  past_all h p =
-      let e = drop_all i bs h in
-      (sym (p.before ∙ ap (λ l. take i bs ++ front c l) e ∙ append-nil _ ∙ take_all i bs h), sym (p.after ∙ ap (behind c) e))
+  behind_is : (bs : List ℕ) → behind c bs ≡ cond (ltb (position_or_len (λ b. eqb b c) bs) (length bs)) (Some (drop (position_or_len (λ b. eqb b c) bs + 1) bs)) None
+  behind_is [] = refl
+  behind_is (b ∷ bs) =
+      let h = behind_is bs in
+      elim (eqb b c) as (λ t. cond t (Some bs) (behind c bs) ≡ cond (ltb (cond (not t) (1 + position_or_len (λ b. eqb b c) bs) 0) (suc (length bs))) (Some (drop (cond (not t) (1 + position_or_len (λ b. eqb b c) bs) 0 + 1) (b ∷ bs))) None)
+      [ true ↦ grind (arith, nat_tests) | false ↦ let d = drop_past b (position_or_len (λ b. eqb b c) bs) bs in grind (arith, nat_tests) ]
+
+  pub found : (bs : List ℕ) (i : ℕ) → Some i ≡ position (λ b. eqb b c) bs → (take i bs ≡ front c bs) × (◌≡◌ {A = Option (List ℕ)} (Some (take (length bs - (i + 1)) (drop (i + 1) bs))) (behind c bs))
+  found bs i e =
+      let f = front_is bs in
+      let b = behind_is bs in
+      let r = take_rest bs (i + 1) in
+      (grind (arith, nat_tests), grind (arith, nat_tests))
+
+  pub missing : (bs : List ℕ) → None ≡ position (λ b. eqb b c) bs → (bs ≡ front c bs) × (◌≡◌ {A = Option (List ℕ)} None (behind c bs))
+  missing bs e =
+      let f = front_is bs in
+      let b = behind_is bs in
+      (grind (arith, nat_tests, common_steps), grind (arith, nat_tests))

@@ -1,52 +1,25 @@
--- What counting and reading the words of a line keep.
+-- What reading the words of a line keeps.
 use Rattle.std.proofs.Common.{◌≡◌, ℕ, suc, ◌+◌, ◌-◌, ◌<◌, ◌≤◌, true, false, cond, eqb, List, [], ◌∷◌, ◌++◌, length, get_or, take, drop, set, replicate, Some, None, Err, Option, Result, unwrap_or, sym, refl, ap, ◌∙◌, append_assoc, arith}
-use Rattle.std.proofs.lemmas.List.{drop_more, drop_all, length-take-le, length-set, take_more_set, set_at, take_rest}
-use Rattle.std.proofs.lemmas.Bool.{eq-eqb, ne_eqb}
+use Rattle.std.specs.List.{onto_first}
+use Rattle.std.proofs.lemmas.List.{length-take-le, length-set, take_more_set, set_at, take_rest}
+use Rattle.std.proofs.lemmas.Bool.{eq-eqb}
 use Rattle.layout.specs.declared.refusal.Refusal.TheVariants.{BadNumber}
 use Rattle.script.specs.declared.command.Numbers.{Numbers}
 use Rattle.script.specs.declared.command.Fault.{Fault}
 use Rattle.script.specs.Numerals.{numeral}
 use Rattle.script.specs.Tokens.{Part, command, number, remark, part_value, first_part, after_first, next_part}
-use Rattle.script.specs.Words.{front, behind, with_first, parts, parts_of, further}
+use Rattle.script.specs.Words.{front, behind, parts, parts_of, further}
 use Rattle.script.specs.Commands.{read_on, fault}
 
 -- the parts of a text are what stands before the first c and the parts behind it
 pub parts_at : (c : ℕ) (bs : List ℕ) → parts c bs ≡ front c bs ∷ parts_of c (behind c bs)
 parts_at c [] = refl
 parts_at c (b ∷ bs) =
-    elim (eqb b c) as (λ t. cond t ([] ∷ parts c bs) (with_first b (parts c bs)) ≡ cond t [] (b ∷ front c bs) ∷ parts_of c (cond t (Some bs) (behind c bs)))
-    [ true ↦ refl | false ↦ ap (with_first b) (parts_at c bs) ]
+    elim (eqb b c) as (λ t. cond t ([] ∷ parts c bs) (onto_first b (parts c bs)) ≡ cond t [] (b ∷ front c bs) ∷ parts_of c (cond t (Some bs) (behind c bs)))
+    [ true ↦ refl | false ↦ ap (onto_first b) (parts_at c bs) ]
 
 abbrev pub parts_cut : (bs : List ℕ) → parts 32 bs ≡ front 32 bs ∷ further (behind 32 bs)
 parts_cut = parts_at 32
-
--- behind the first i bytes there are n words fewer
-pub record Counted (bs : List ℕ) (i n : ℕ) : Type 0 where
-  pub is : n + length (parts 32 (drop i bs)) ≡ length (parts 32 bs)
-  pub few : n ≤ i
-
-long_first : (b : ℕ) (ws : List (List ℕ)) → 0 < length ws → length (with_first b ws) ≡ length ws
-long_first b [] h = absurd (omega arith)
-long_first b (w ∷ ws) h = refl
-
-parts_some : (bs : List ℕ) → 0 < length (parts 32 bs)
-parts_some bs = omega (arith, ap length (parts_cut bs))
-
-module _ (bs : List ℕ) (i n : ℕ) (h : i < length bs) (k : Counted bs i n) where
-  pub counted_blank : get_or bs i 0 ≡ 32 → Counted bs (i + 1) (n + 1)
-  counted_blank e =
-      let one : length (parts 32 (drop i bs)) ≡ suc (length (parts 32 (drop (i + 1) bs))) =
-      ap (λ l. length (parts 32 l)) (drop_more bs i 0 h) ∙ ap (λ t. length (cond t ([] ∷ parts 32 (drop (i + 1) bs)) (with_first (get_or bs i 0) (parts 32 (drop (i + 1) bs))))) (eq-eqb _ _ e) in
-      record { is = omega (arith, k.is); few = omega (arith, k.few) }
-
-  pub counted_other : (get_or bs i 0 ≡ 32 → ⊥) → Counted bs (i + 1) n
-  counted_other e =
-      let one : length (parts 32 (drop i bs)) ≡ length (parts 32 (drop (i + 1) bs)) =
-      ap (λ l. length (parts 32 l)) (drop_more bs i 0 h) ∙ ap (λ t. length (cond t ([] ∷ parts 32 (drop (i + 1) bs)) (with_first (get_or bs i 0) (parts 32 (drop (i + 1) bs))))) (ne_eqb _ _ e) ∙ long_first _ _ (parts_some (drop (i + 1) bs)) in
-      record { is = omega (arith, k.is); few = omega (arith, k.few) }
-
-pub counted_all : (bs : List ℕ) (i n : ℕ) → length bs ≤ i → Counted bs i n → n + 1 ≡ length (parts 32 bs)
-counted_all bs i n h k = omega (arith, k.is, ap (λ l. length (parts 32 l)) (drop_all i bs h))
 
 -- at holds count numbers, before zeros
 pub record Packed (at : List ℕ) (count : ℕ) : Type 0 where

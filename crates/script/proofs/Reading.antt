@@ -1,62 +1,41 @@
--- What reading a number keeps.
-use Rattle.std.proofs.Common.{◌≡◌, ℕ, ◌+◌, ◌*◌, ◌^◌, ◌<◌, ◌≤◌, true, false, List, length, get_or, take, Some, None, Ok, Err, Result, sym, ap, ◌∙◌, subst, ⊎_elim, arith, length-take}
-use Rattle.std.specs.Str.Parse.{digits_value, AllDigits}
-use Rattle.std.specs.Char.{digit_value}
-use Rattle.std.specs.Str.{all_ascii_digits}
-use Rattle.std.proofs.lemmas.Int.Digits.{digits_value_more, digits_more}
-use Rattle.std.proofs.lemmas.Str.Parse.{IsNumeralModel, numerals_by_value, tells_digits, tells_all_ascii_digits, digits_value_short, digit_at}
-use Rattle.std.proofs.lemmas.List.{take_all}
-use Rattle.std.proofs.lemmas.Bool.{and_from, le-leb, cases_Bool, cond-true, cases_lt}
-use Rattle.std.specs.Result.{OkIff, result_ok}
+-- What is read of a number word.
+use Rattle.std.proofs.Common.{◌≡◌, ℕ, ◌<◌, ◌≤◌, true, false, ◌&&◌, List, length, Some, None, Ok, Err, Result, MatchResult, Bor, unwrap_or, refl, ap, arith}
+use Rattle.std.specs.Char.{is_ascii_digit}
+use Rattle.std.specs.List.{list_all}
+use Rattle.std.specs.Result.{result_ok}
+use Rattle.std.specs.Str.{IsUtf8, all_ascii_digits}
+use Rattle.std.specs.Str.Parse.{digits_value, ParsesUnsigned}
 use Rattle.std.proofs.lemmas.Bool.Decides.{nat_tests}
+use Rattle.std.proofs.lemmas.Fmt.{IsAscii-from_digits}
+use Rattle.std.proofs.lemmas.List.Recursion.{same_from_clauses}
+use Rattle.std.proofs.lemmas.Str.{IsUtf8-from_ascii}
+use Rattle.std.proofs.lemmas.Str.Parse.{IsNumeralModel, numerals_by_value, tells_all_ascii_digits, parse_digits}
 use Rattle.script.specs.Numerals.{numeral}
 
 own : IsNumeralModel (λ ds. all_ascii_digits ds ≡ true) (digits_value 10)
 own = numerals_by_value _ tells_all_ascii_digits
 
-plain : IsNumeralModel (AllDigits 10) (digits_value 10)
-plain = numerals_by_value _ tells_digits
+pub all_digits : (w : List ℕ) → list_all is_ascii_digit w ≡ all_ascii_digits w
+all_digits = same_from_clauses (list_all is_ascii_digit) all_ascii_digits (λ c t. is_ascii_digit c && t) refl (λ _ _. refl) (λ _ _. refl)
 
--- n is the value of the first i bytes, all digits
-pub record Read (w : List ℕ) (i n : ℕ) : Type 0 where
-  pub is : n ≡ digits_value 10 (take i w)
-  pub digits : AllDigits 10 (take i w)
+module _ (w : List ℕ) where
+  pub none_long : 10 < length w → None ≡ numeral w
+  none_long h = grind (arith, nat_tests)
 
-module _ (w : List ℕ) (i n : ℕ) where
-  pub read_bound : Read w i n → i ≤ 9 → n < 10 ^ 9
-  read_bound r h = let long : length (take i w) ≤ 9 = simp length-take (omega arith) in omega (arith, digits_value_short plain (take i w) 9 r.digits long, r.is)
+  pub none_else : all_ascii_digits w ≡ false → None ≡ numeral w
+  none_else h = grind (arith, nat_tests)
 
-  pub read_more : i < length w → (d : ℕ) → digit_value (get_or w i 0) < 10 → d ≡ digit_value (get_or w i 0) → Read w i n → Read w (i + 1) (n * 10 + d)
-  read_more h d small e r = record {
-    is = (λ j. r.is j * 10 + e j) ∙ sym (digits_value_more 10 w i h);
-    digits = digits_more 10 w i h r.digits small;
-  }
+  digits_text : all_ascii_digits w ≡ true → IsUtf8 w
+  digits_text h = IsUtf8-from_ascii w (IsAscii-from_digits w (own.to w h))
 
-  not_digits : i < length w → (digit_value (get_or w i 0) < 10 → ⊥) → all_ascii_digits w ≡ false
-  not_digits h out = ⊎_elim (λ yea. absurd (out (digit_small (digit_at w i (own.to w yea) h)))) (λ nay. nay) (cases_Bool (all_ascii_digits w))
-    where
-      digit_small : {c : ℕ} → (48 ≤ c) × (c ≤ 57) → digit_value c < 10
-      digit_small {c} p = grind (arith, nat_tests)
+  pub same_text : {E : Type 0} (P : E → Type 0) (r : Result (Bor (List ℕ)) E) (s : Bor (List ℕ)) → MatchResult r (λ t. (t.now ≡ w) × IsUtf8 w) P → result_ok r ≡ Some s → s.now ≡ w
+  same_text P (Ok t) s h e = cc (h.0, ap (λ o. unwrap_or o s) e)
+  same_text P (Err x) s h e = cc e
 
-pub none_digit : (w : List ℕ) (i : ℕ) → i < length w → (digit_value (get_or w i 0) < 10 → ⊥) → numeral w ≡ None
-none_digit w i h out = let e = not_digits w i 0 h out in grind (arith, nat_tests)
+  pub no_text : {E : Type 0} (P : E → Type 0) (r : Result (Bor (List ℕ)) E) → MatchResult r (λ t. (t.now ≡ w) × IsUtf8 w) (λ e. ¬ (IsUtf8 w) × P e) → result_ok r ≡ None → all_ascii_digits w ≡ true → ⊥
+  no_text P (Ok t) h e d = cc e
+  no_text P (Err x) h e d = h.0 (digits_text d)
 
-module _ (w : List ℕ) (n : ℕ) (some : 1 ≤ length w) (few : length w ≤ 10) (r : Read w (length w) n) where
-  all : take (length w) w ≡ w
-  all = take_all (length w) w (omega arith)
-
-  same : digits_value 10 w ≡ n
-  same = ap (digits_value 10) (sym all) ∙ sym r.is
-
-  digits : all_ascii_digits w ≡ true
-  digits = own.from w (subst (AllDigits 10) all r.digits)
-
-  pub some_fits : n ≤ 4294967295 → numeral w ≡ Some n
-  some_fits h = cond-true _ _ _ (and_from _ _ (le-leb _ _ some) (and_from _ _ (le-leb _ _ few) (and_from _ _ digits (le-leb _ _ (omega (arith, same)))))) ∙ ap Some same
-
-  pub none_wide : 4294967295 < n → numeral w ≡ None
-  none_wide h = let e = same in let d = digits in grind (arith, nat_tests)
-
-  pub tried : {E : Type 0} (r : Result ℕ E) → OkIff r (n < 2 ^ 32) n → result_ok r ≡ numeral w
-  tried (Ok x) (h, e) = ap Some e ∙ sym (some_fits (omega arith))
-  tried (Err x) h = sym (none_wide (⊎_elim (λ lt. absurd (h lt)) (λ ge. omega arith) (cases_lt n (2 ^ 32))))
+  pub parsed : {E : Type 0} (r : Result ℕ E) → length w ≤ 10 → all_ascii_digits w ≡ true → ParsesUnsigned 32 10 w r → result_ok r ≡ numeral w
+  parsed {E} (Ok x) few h p = let q = parse_digits own {E = E} 32 w (Ok x) p h in grind (arith, nat_tests)
+  parsed {E} (Err e) few h p = let q = parse_digits own {E = E} 32 w (Err e) p h in grind (arith, nat_tests)

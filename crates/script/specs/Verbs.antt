@@ -1,7 +1,7 @@
 -- Which command a word names.
 use Rattle.std.specs.Prelude.{ℕ, cond, List, [], ◌∷◌, Some, None, Option, ◌==◌}
-use Rattle.script.specs.declared.command.Side.{Side}
-use Rattle.script.specs.declared.command.Side.TheVariants.{Rows, Columns}
+use Rattle.layout.specs.declared.side.Side.{Side}
+use Rattle.layout.specs.declared.side.Side.TheVariants.{Rows, Columns}
 use Rattle.script.specs.declared.command.Verb.{Verb}
 use Rattle.script.specs.declared.command.Verb.TheVariants.{Insert, Remove, RemoveAt, Swap, New, Resize, Undo, Settle, Print}
 

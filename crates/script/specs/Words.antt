@@ -1,5 +1,6 @@
 -- A text cut at a byte.
 use Rattle.std.specs.Prelude.{ℕ, cond, List, [], ◌∷◌, Some, None, Option, ◌==◌}
+use Rattle.std.specs.List.{slice_split}
 
 -- what stands before the first c
 abbrev pub front : ℕ → List ℕ → List ℕ
@@ -12,13 +13,8 @@ behind c [] = None
 behind c (b ∷ bs) = cond (b == c) (Some bs) (behind c bs)
 
 -- the parts between each c and the next: one more than there are c
-abbrev pub with_first : ℕ → List (List ℕ) → List (List ℕ)
-with_first b [] = (b ∷ []) ∷ []
-with_first b (w ∷ ws) = (b ∷ w) ∷ ws
-
 abbrev pub parts : ℕ → List ℕ → List (List ℕ)
-parts c [] = [] ∷ []
-parts c (b ∷ bs) = cond (b == c) ([] ∷ parts c bs) (with_first b (parts c bs))
+parts c bs = slice_split (λ b. b == c) bs
 
 -- the parts of what stands behind a c
 abbrev pub parts_of : ℕ → Option (List ℕ) → List (List ℕ)

@@ -4,19 +4,15 @@
 // The numbers follow; a value that is left out is 0.
 ghost use Rattle.std.specs.Prelude.{◌≡◌, ◌≤◌, min, [], length, take};
 ghost use Rattle.std.specs.Option.{option_map};
-ghost use Rattle.script.specs.Commands.{fewest, most, takes, lives, read_on, command_for, command_read, decided};
+ghost use Rattle.std.specs.Result.{result_ok};
+ghost use Rattle.layout.specs.declared.refusal.Refusal.TheVariants.{NoCommand};
+ghost use Rattle.script.specs.Commands.{fault, fewest, most, takes, lives, read_on, command_for, command_read, decided};
 ghost use Rattle.script.specs.Verbs.{verb_named, side_of};
 ghost use Rattle.script.specs.Words.{further};
 
 use crate::token::{Token, first_token, next_token};
 use layout::refusal::Refusal;
-
-// What a command works on.
-#[derive(Clone, Copy, Debug, PartialEq, Eq)]
-pub enum Side {
-    Rows,
-    Columns,
-}
+use layout::side::Side;
 
 // A command without its numbers.
 #[derive(Clone, Copy, Debug, PartialEq, Eq)]
@@ -32,7 +28,12 @@ pub enum Verb {
     Print,
 }
 
-// Up to 16 numbers, before zeros. They lie in place, so that a command needs no memory of its own.
+// A word that names no command.
+#[derive(Clone, Copy, Debug, PartialEq, Eq)]
+pub struct UnknownVerb;
+
+// Up to 16 numbers, before zeros. They lie in place, so that a command needs no memory of its own; an `ArrayVec` is
+// not `Copy`, as a command is.
 #[derive(Clone, Copy, Debug, PartialEq, Eq)]
 pub struct Numbers {
     pub at: [u32; 16],
@@ -99,40 +100,43 @@ const NO_COMMAND: Fault = Fault {
     word: 1,
 };
 
-fn side_of(letter: u8) -> Option<Side>
-    ensures { result ≡ side_of letter }
-{
-    match letter as char {
-        'r' => Some(Side::Rows),
-        'c' => Some(Side::Columns),
-        _ => None,
+impl From<UnknownVerb> for Fault {
+    ghost from_gives = { λ _ f. f ≡ fault NoCommand 1 };
+
+    fn from(_: UnknownVerb) -> Fault {
+        NO_COMMAND
     }
 }
 
-// The command that a word of one or two letters names.
-pub fn verb_of(word: &[u8]) -> Option<Verb>
-    ensures { result ≡ verb_named word.now }
+fn side_of(letter: u8) -> Result<Side, UnknownVerb>
+    ensures { result_ok result ≡ side_of letter }
 {
-    match word {
-        [letter] => match *letter as char {
-            'n' => Some(Verb::New),
-            'z' => Some(Verb::Resize),
-            'u' => Some(Verb::Undo),
-            'k' => Some(Verb::Settle),
-            'p' => Some(Verb::Print),
-            _ => None,
-        },
-        [letter, last] => {
-            let side = side_of(*last)?;
-            match *letter as char {
-                'i' => Some(Verb::Insert(side)),
-                'r' => Some(Verb::Remove(side)),
-                'a' => Some(Verb::RemoveAt(side)),
-                's' => Some(Verb::Swap(side)),
-                _ => None,
-            }
+    match letter {
+        b'r' => Ok(Side::Rows),
+        b'c' => Ok(Side::Columns),
+        _ => Err(UnknownVerb),
+    }
+}
+
+// A command by its word of one or two letters.
+impl TryFrom<&[u8]> for Verb {
+    type Error = UnknownVerb;
+
+    ghost try_from_gives = { λ word r. result_ok r ≡ verb_named word.now };
+
+    fn try_from(word: &[u8]) -> Result<Verb, UnknownVerb> {
+        match word {
+            [b'n'] => Ok(Verb::New),
+            [b'z'] => Ok(Verb::Resize),
+            [b'u'] => Ok(Verb::Undo),
+            [b'k'] => Ok(Verb::Settle),
+            [b'p'] => Ok(Verb::Print),
+            [b'i', side] => Ok(Verb::Insert(side_of(*side)?)),
+            [b'r', side] => Ok(Verb::Remove(side_of(*side)?)),
+            [b'a', side] => Ok(Verb::RemoveAt(side_of(*side)?)),
+            [b's', side] => Ok(Verb::Swap(side_of(*side)?)),
+            _ => Err(UnknownVerb),
         }
-        _ => None,
     }
 }
 
@@ -174,13 +178,7 @@ fn count_words(words: Option<&[u8]>) -> usize
     let Some(text) = words else {
         return 0;
     };
-    let mut blanks = 0;
-    for b in text {
-        if *b == b' ' {
-            blanks += 1;
-        }
-    }
-    blanks + 1
+    text.iter().filter(|b| **b == b' ').count() + 1
 }
 
 // The numbers that the words write. The first bad word is refused by its place in the line, where the command is word 1.
@@ -188,17 +186,15 @@ fn numbers_of(words: Option<&[u8]>) -> Result<Numbers, Fault>
     requires { length (further (option_map (λ x. x.now) words)) ≤ 16 }
     ensures { result ≡ read_on [] (further (option_map (λ x. x.now) words.entry)) }
 {
+    // `next_token` hands back the words that are left; an iterator made for this loop alone would be no plainer.
     let mut rest = words;
     let mut at = [0; 16];
     let mut count = 0;
     while let Some((token, after)) = next_token(rest) {
-        let Some(n) = token.value() else {
-            return Err(Fault {
-                refusal: Refusal::BadNumber,
-                word: count + 2,
-            });
-        };
-        at[count] = n;
+        at[count] = token.value().ok_or(Fault {
+            refusal: Refusal::BadNumber,
+            word: count + 2,
+        })?;
         count += 1;
         rest = after;
     }
@@ -270,9 +266,7 @@ pub fn decide(line: &[u8]) -> Result<Command, Fault>
     if line.len() > 80 {
         return Err(NO_COMMAND);
     }
-    let Some(verb) = verb_of(word) else {
-        return Err(NO_COMMAND);
-    };
+    let verb = Verb::try_from(word)?;
     if !lives(verb) {
         return Err(NO_COMMAND);
     }

@@ -1,21 +1,24 @@
 // Reads a number word.
 ghost use Rattle.std.specs.Prelude.{◌≡◌};
+ghost use Rattle.std.specs.Str.{all_ascii_digits};
 ghost use Rattle.script.specs.Numerals.{numeral};
+
+// So many digits a number has at most.
+const DIGITS: usize = 10;
+
+fn is_digits(word: &[u8]) -> bool
+    ensures { result ≡ all_ascii_digits word.now }
+{
+    word.iter().all(u8::is_ascii_digit)
+}
 
 // The value of 1 to 10 decimal digits, where it fits 32 bits.
 pub fn number(word: &[u8]) -> Option<u32>
     ensures { result ≡ numeral word.now }
 {
-    // Ten digits stay far below 64 bits, so no step of the sum can wrap.
-    if word.is_empty() || word.len() > 10 {
+    // The library's reading also takes a sign, and any count of digits.
+    if word.len() > DIGITS || !is_digits(word) {
         return None;
     }
-    let mut n: u64 = 0;
-    for b in word {
-        let Some(digit) = (*b as char).to_digit(10) else {
-            return None;
-        };
-        n = n * 10 + u64::from(digit);
-    }
-    u32::try_from(n).ok()
+    str::from_utf8(word).ok()?.parse().ok()
 }

@@ -11,12 +11,10 @@ pub fn cut(text: &[u8], at: u8) -> (&[u8], Option<&[u8]>)
     ensures front { result.0.now ≡ front at text.now }
     ensures back { option_map (λ x. x.now) result.1 ≡ behind at text.now }
 {
-    for (i, b) in text.iter().enumerate() {
-        if *b == at {
-            return (&text[0..i], Some(&text[i + 1..]));
-        }
+    match text.iter().position(|b| *b == at) {
+        Some(i) => (&text[..i], Some(&text[i + 1..])),
+        None => (text, None),
     }
-    (text, None)
 }
 
 // The first line of a text and what is left behind it. Nothing is left behind a line that lacks its line feed.

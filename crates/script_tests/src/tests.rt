@@ -1,6 +1,7 @@
 // Good and bad lines.
 use layout::refusal::Refusal;
-use script::command::{Command, Fault, Numbers, Side, decide, read_command, verb_of};
+use layout::side::Side;
+use script::command::{Command, Fault, Numbers, Verb, decide, read_command};
 use script::words::cut;
 use std::process::Abort;
 
@@ -47,7 +48,7 @@ fn lines_are_decided(rt: HostRuntime) {
 // Reads a line's command whether or not it is carried out yet.
 fn read(line: &[u8]) -> Option<Result<Command, Fault>> {
     let (word, words) = cut(line, b' ');
-    Some(read_command(verb_of(word)?, words))
+    Some(read_command(Verb::try_from(word).ok()?, words))
 }
 
 fn reads(rt: &impl Abort, line: &[u8], command: Command) {
@@ -139,5 +140,5 @@ fn commands_that_stand_alone_are_read(rt: HostRuntime) {
     reads(&rt, b"u", Command::Undo);
     reads(&rt, b"k", Command::Settle);
     reads(&rt, b"p", Command::Print);
-    assert_eq!(rt; verb_of(b"q"), None);
+    assert_eq!(rt; Verb::try_from(b"q".as_slice()).ok(), None);
 }

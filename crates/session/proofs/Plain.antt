@@ -1,10 +1,9 @@
 -- A sheet of one value, opened.
-use Rattle.std.proofs.Common.{◌≡◌, ℕ, ◌*◌, ◌≤◌, Bool, true, false, cond, leb, List, [], ◌∷◌, drop, replicate, is_ok, Ok, Err, Result, sym, refl, ap, ◌∙◌, subst, ap₂, arith, MatchResult}
+use Rattle.std.proofs.Common.{◌≡◌, ℕ, ◌*◌, ◌≤◌, Bool, true, false, cond, leb, List, [], ◌∷◌, drop, replicate, Ok, sym, refl, ap, ◌∙◌, subst, ap₂, arith}
 use lib.ListN.{length-replicate}
 use Rattle.std.proofs.lemmas.List.{take-replicate}
-use Rattle.std.proofs.lemmas.Bool.{and_from, both_ways, le-leb}
-use Rattle.layout.specs.declared.refusal.Refusal.{Refusal}
-use Rattle.layout.specs.Checks.{Checked, Passes, dense_rules}
+use Rattle.std.proofs.lemmas.Bool.{and_from, le-leb}
+use Rattle.layout.specs.Checks.{Passes, dense_rules}
 use Rattle.layout.specs.Dense.{dense_lawful}
 use Rattle.layout.specs.Lawful.{dense}
 use Rattle.model.specs.Journal.{Room, done, first_no, opened}
@@ -41,13 +40,11 @@ module _ (rows columns v : ℕ) (few : Passes (dense_rules rows columns)) where
 
 -- the sheet that n opens
 pub new_opened :
-    (s t : Session) (rows columns v dr dc : ℕ) → Passes (dense_rules rows columns) → dr ≡ rows → dc ≡ columns
-    → (r : Result Unit Refusal) → true ≡ is_ok r → t.opened ≡ true
-    → Checked (opening_rules (dense dr dc) 4096 (state_of s).sheet.room) r
-    → MatchResult r (λ _. (state_of t).sheet ≡ opened (table_in (dense dr dc) (replicate 4096 v)) (state_of s).sheet.room) (λ _. t.sheet.now.parts ≡ s.sheet.now.parts)
-    → NewAnswers s t rows columns v r
-new_opened s t rows columns v dr dc few er ec (Err e) ok op asked is = absurd (both_ways false refl (sym ok))
-new_opened s t rows columns v dr dc few er ec (Ok u) ok op asked is =
+    (s t : Session) (rows columns v dr dc : ℕ) → Passes (dense_rules rows columns) → dr ≡ rows → dc ≡ columns → t.opened ≡ true
+    → Passes (opening_rules (dense dr dc) 4096 (state_of s).sheet.room)
+    → (state_of t).sheet ≡ opened (table_in (dense dr dc) (replicate 4096 v)) (state_of s).sheet.room
+    → NewAnswers s t rows columns v (Ok tt)
+new_opened s t rows columns v dr dc few er ec op asked is =
     let room = (state_of s).sheet.room in
     let passed : Passes (opening_rules (dense rows columns) 4096 room) =
     subst (λ z. Passes (opening_rules (dense rows z) 4096 room)) ec (subst (λ z. Passes (opening_rules (dense z dc) 4096 room)) er asked) in

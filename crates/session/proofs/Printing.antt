@@ -1,30 +1,36 @@
 -- The rows of a table, written one after the other.
 use Rattle.std.proofs.Common.{◌≡◌, ℕ, suc, ◌+◌, ◌-◌, ◌<◌, ◌≤◌, List, ◌∷◌, ◌++◌, sym, ap, ◌∙◌, ap₂, append_assoc, append-nil, arith}
 use Rattle.std.specs.List.{range_with_len, flat_map}
+use Rattle.model.specs.Sheet.{Table}
 use Rattle.script.specs.Commands.{decided}
-use Rattle.session.specs.Transcript.{State, obeyed, transcript}
+use Rattle.answers.specs.Answers.{row_text}
+use Rattle.session.specs.Transcript.{State, obeyed, row_of, transcript}
 
-module _ (f : ℕ → List ℕ) (n : ℕ) (old all : List ℕ) where
-  pub one_more : (r : ℕ) (new : List ℕ) → r < n → new ≡ old ++ f r → old ++ flat_map f (range_with_len r (n - r)) ≡ all
-      → new ++ flat_map f (range_with_len (r + 1) (n - (r + 1))) ≡ all
+-- the rows from r on
+abbrev pub printed_from : Table ℕ → ℕ → List ℕ
+printed_from t r = flat_map (λ k. row_text (row_of t k)) (range_with_len r (t.rows - r))
+
+module _ (t : Table ℕ) (old all : List ℕ) where
+  pub one_more : (r : ℕ) (new : List ℕ) → r < t.rows → new ≡ old ++ row_text (row_of t r) → old ++ printed_from t r ≡ all → new ++ printed_from t (r + 1) ≡ all
   one_more r new h e k =
-      ap (λ z. z ++ flat_map f (range_with_len (r + 1) (n - (r + 1)))) e
-      ∙ append_assoc old (f r) (flat_map f (range_with_len (r + 1) (n - (r + 1))))
-      ∙ ap (λ z. old ++ flat_map f (range_with_len r z)) (let z : suc (n - (r + 1)) ≡ n - r = omega arith in z)
+      ap (λ z. z ++ printed_from t (r + 1)) e
+      ∙ append_assoc old (row_text (row_of t r)) (printed_from t (r + 1))
+      ∙ ap (λ z. old ++ flat_map (λ k. row_text (row_of t k)) (range_with_len r z)) (let z : suc (t.rows - (r + 1)) ≡ t.rows - r = omega arith in z)
       ∙ k
 
-  pub none_left : (r : ℕ) → n ≤ r → old ++ flat_map f (range_with_len r (n - r)) ≡ all → old ≡ all
+  pub none_left : (r : ℕ) → t.rows ≤ r → old ++ printed_from t r ≡ all → old ≡ all
   none_left r h k =
-      sym (append-nil old) ∙ ap (λ z. old ++ flat_map f (range_with_len r z)) (let z : 0 ≡ n - r = omega arith in z) ∙ k
+      sym (append-nil old) ∙ ap (λ z. old ++ flat_map (λ k. row_text (row_of t k)) (range_with_len r z)) (let z : 0 ≡ t.rows - r = omega arith in z) ∙ k
 
--- one line more is obeyed
+-- one line more is obeyed, of number k
 pub line_more :
-    (s t : State) (number : ℕ) (line : List ℕ) (lines before : List (List ℕ)) (old new all : List ℕ) → before ≡ line ∷ lines
-    → t ≡ (obeyed s number (decided line)).0 → new ≡ old ++ (obeyed s number (decided line)).1
-    → old ++ transcript s number before ≡ all → new ++ transcript t (number + 1) lines ≡ all
-line_more s t number line lines before old new all e f g k =
-    let z = obeyed s number (decided line) in
-    ap₂ (λ x y. x ++ transcript y (number + 1) lines) g f
-    ∙ append_assoc old z.1 (transcript z.0 (number + 1) lines)
-    ∙ ap (λ x. old ++ transcript s number x) (sym e)
-    ∙ k
+    (s t : State) (n k m : ℕ) (line : List ℕ) (lines before : List (List ℕ)) (old new all : List ℕ) → k ≡ n → m ≡ n + 1 → before ≡ line ∷ lines
+    → t ≡ (obeyed s k (decided line)).0 → new ≡ old ++ (obeyed s k (decided line)).1
+    → old ++ transcript s n before ≡ all → new ++ transcript t m lines ≡ all
+line_more s t n k m line lines before old new all ek em e f g h =
+    let z = obeyed s n (decided line) in
+    ap₂ (λ x y. x ++ transcript y m lines) g f
+    ∙ ap₂ (λ k m. old ++ (obeyed s k (decided line)).1 ++ transcript (obeyed s k (decided line)).0 m lines) ek em
+    ∙ append_assoc old z.1 (transcript z.0 (n + 1) lines)
+    ∙ ap (λ x. old ++ transcript s n x) (sym e)
+    ∙ h

@@ -2,14 +2,12 @@
 use Rattle.std.specs.Prelude.{ℕ, ◌+◌, ◌*◌, Bool, true, false, cond, not, ◌&&◌, List, [], ◌∷◌, ◌++◌, map, replicate, Ok, Err, Result, nat_le, slice_index}
 use Rattle.std.specs.List.{range_with_len, flat_map}
 use Rattle.layout.specs.Refusals.{number_of}
-use Rattle.model.specs.Sheet as lines
+use Rattle.journal.specs.View.{side_of}
 use Rattle.model.specs.Sheet.{Table, Change, insert_lines, remove_lines}
 use Rattle.model.specs.Journal.{Sheet, Room, Answer, done, refused, change, first_no, opened, step}
 use Rattle.script.specs.declared.command.Command.{Command}
 use Rattle.script.specs.declared.command.Command.TheVariants.{Insert, Remove, RemoveAt, Swap, New, Resize, Undo, Settle, Print, Remark}
 use Rattle.script.specs.declared.command.Fault.{Fault}
-use Rattle.script.specs.declared.command.Side.{Side}
-use Rattle.script.specs.declared.command.Side.TheVariants.{Rows, Columns}
 use Rattle.script.specs.Commands.{decided}
 use Rattle.answers.specs.Answers.{done_text, no_text, row_text}
 
@@ -35,10 +33,6 @@ new_tests r rows columns =
     ∷ (4, nat_le (rows * columns) r.for_cells)
     ∷ (10, nat_le (rows * columns) 4096)
     ∷ []
-
-abbrev pub side_of : Side → lines.Side
-side_of Rows = lines.row
-side_of Columns = lines.column
 
 abbrev pub changing : State → Change ℕ → State × Answer
 changing s ch = (record { is_open = s.is_open; sheet = (step s.sheet (change ch)).0 }, (step s.sheet (change ch)).1)

@@ -1,16 +1,17 @@
 ghost use Rattle.std.specs.Prelude.{◌≡◌, ◌++◌, OnOk};
-ghost use Rattle.journal.specs.View.{answered, view};
+ghost use Rattle.journal.specs.View.{answered, side_of, view};
 ghost use Rattle.script.specs.Commands.{decided};
 ghost use Rattle.model.specs.Sheet.{insert_lines, remove_lines};
-ghost use Rattle.session.specs.Transcript.{changing, side_of, needs_a_sheet, obeyed, outcome, performed, printed, unopened};
+ghost use Rattle.session.specs.Transcript.{changing, needs_a_sheet, obeyed, outcome, performed, printed, unopened};
 ghost use Rattle.session.specs.Meaning.{NewAnswers, state_of};
 
 use super::state::Session;
-use answers::answer::{Answer, put_answer, put_row};
+use answers::answer::{Done, Refused, put_answer, put_row};
 use layout::refusal::Refusal;
+use layout::side::Side;
 use layout::storage::Layout;
 use layout::vec_storage::Dense;
-use script::command::{Command, Side, decide};
+use script::command::{Command, decide};
 use sheet::cell::Weight;
 use sheet::sheet::Sheet;
 use std::alloc::AllocError;
@@ -49,36 +50,24 @@ impl<'s, 'a> Session<'s, 'a> {
     fn open_new(&mut self, rows: u32, columns: u32, value: u32) -> Result<(), Refusal>
         ensures { NewAnswers self.old self.new rows columns value result }
     {
-        let checked = Dense::check(rows, columns);
-        if checked.is_err() {
-            return checked;
-        }
-        let table = [value; 4096];
-        let opened = self.sheet.reopen(&Dense::make(rows, columns), &table);
-        if opened.is_ok() {
-            self.opened = true;
-        }
-        opened
+        let dense = Dense::new(rows, columns)?;
+        self.sheet.reopen(&dense, &[value; 4096])?;
+        self.opened = true;
+        Ok(())
     }
 
     fn insert(&mut self, side: Side, at: u32, count: u32, value: Weight) -> Result<(), Refusal>
         ensures which { answered result ≡ (changing (state_of self.old) (insert_lines (side_of side) at count value)).1 }
         ensures state { state_of self.new ≡ (changing (state_of self.old) (insert_lines (side_of side) at count value)).0 }
     {
-        match side {
-            Side::Rows => self.sheet.insert_rows(at, count, value),
-            Side::Columns => self.sheet.insert_columns(at, count, value),
-        }
+        self.sheet.insert_lines(side, at, count, value)
     }
 
     fn remove(&mut self, side: Side, at: u32, count: u32) -> Result<(), Refusal>
         ensures which { answered result ≡ (changing (state_of self.old) (remove_lines (side_of side) at count)).1 }
         ensures state { state_of self.new ≡ (changing (state_of self.old) (remove_lines (side_of side) at count)).0 }
     {
-        match side {
-            Side::Rows => self.sheet.remove_rows(at, count),
-            Side::Columns => self.sheet.remove_columns(at, count),
-        }
+        self.sheet.remove_lines(side, at, count)
     }
 
     // Carries out a command; first of all a sheet must be open for it.
@@ -120,7 +109,7 @@ impl<'s, 'a> Session<'s, 'a> {
             Command::Remark => Ok(()),
             _ => {
                 let (rows, columns) = self.sheet.shape();
-                put_answer(out, Answer::Done { rows, columns })
+                put_answer(out, Ok(Done { rows, columns }))
             }
         }
     }
@@ -133,22 +122,22 @@ impl<'s, 'a> Session<'s, 'a> {
             Ok(command) => command,
             Err(fault) => return put_answer(
                 out,
-                Answer::Refused {
+                Err(Refused {
                     line: number,
                     word: fault.word,
                     refusal: fault.refusal,
-                },
+                }),
             ),
         };
         match self.perform(command) {
             Ok(()) => self.put_outcome(command, out),
             Err(refusal) => put_answer(
                 out,
-                Answer::Refused {
+                Err(Refused {
                     line: number,
                     word: 1,
                     refusal,
-                },
+                }),
             ),
         }
     }

@@ -1,7 +1,8 @@
 ghost use Rattle.std.specs.Prelude.{◌≡◌, ◌<◌, ◌++◌, length, take, vec_len, OnOk, ◌==◌};
+ghost use Rattle.std.specs.Iterator.{at_most};
 ghost use Rattle.script.specs.Words.{lines_of};
 ghost use Rattle.session.specs.Transcript.{transcript};
-ghost use Rattle.session.specs.Meaning.{state_of};
+ghost use Rattle.session.specs.Meaning.{Takes, state_of};
 
 use super::state::{Lines, Session};
 use script::words::next_line;
@@ -12,14 +13,8 @@ impl<'s> Lines<'s> {
     pub fn new(script: &'s [u8]) -> Lines<'s>
         ensures { (result.rest.now ≡ take 65536 script.now) × (result.number ≡ 1) }
     {
-        if script.len() > 65536 {
-            return Lines {
-                rest: &script[0..65536],
-                number: 1,
-            };
-        }
         Lines {
-            rest: script,
+            rest: &script[..script.len().min(65536)],
             number: 1,
         }
     }
@@ -31,6 +26,26 @@ impl<'s> Lines<'s> {
     }
 }
 
+// Each line with its number.
+impl<'s> Iterator for Lines<'s> {
+    type Item = (usize, &'s [u8]);
+
+    ghost next_gives = { Takes };
+
+    ghost remaining = { λ s. at_most (length s.rest.now) };
+
+    fn next(&mut self) -> Option<(usize, &'s [u8])> {
+        if self.is_empty() {
+            return None;
+        }
+        let number = self.number;
+        let (line, rest) = next_line(self.rest);
+        self.number += 1;
+        self.rest = rest;
+        Some((number, line))
+    }
+}
+
 impl<'s, 'a> Session<'s, 'a> {
     // Obeys the lines one after another, until none is left or the text has come to 65,536 bytes.
     // What is written, and what the lines left would write, is what all of them write.
@@ -38,16 +53,11 @@ impl<'s, 'a> Session<'s, 'a> {
         ensures text { OnOk result (out.new.items ++ transcript (state_of self.new) lines.new.number (lines_of lines.new.rest.now) ≡ out.old.items ++ transcript (state_of self.old) lines.old.number (lines_of lines.old.rest.now)) }
         ensures goes { OnOk result ((0 < length lines.old.rest.now → vec_len out.old < 65536 → length lines.new.rest.now < length lines.old.rest.now)) }
     {
-        let mut rest = lines.rest;
-        let mut number = lines.number;
-        while !rest.is_empty() && out.len() < 65536 {
-            let (line, after) = next_line(rest);
+        while out.len() < 65536
+            && let Some((number, line)) = lines.next()
+        {
             self.obey(number, line, out)?;
-            rest = after;
-            number += 1;
         }
-        lines.rest = rest;
-        lines.number = number;
         Ok(())
     }
 }

@@ -4,6 +4,7 @@ use sheet::cell::Weight;
 use sheet::sheet::Sheet;
 
 // A sheet of weights that the lines of a script act on, and whether the script has opened it yet.
+// Both cases hold the same sheet, so an enum of two cases would be no plainer than the flag.
 #[derive(Drop)]
 pub struct Session<'s, 'a> {
     pub(crate) sheet: &'s mut Sheet<'a, Weight>,

@@ -1,22 +1,21 @@
-use Rattle.std.proofs.Common.{◌≡◌, length, sym, ◌∙◌, subst, arith, rules, false-eqb}
-use Rattle.script.proofs.Reading.{Read, read_bound, read_more, none_digit, tried}
+use Rattle.std.proofs.Common.{sym, ◌∙◌, subst}
+use Rattle.std.specs.Str.Parse.{ParsesUnsigned}
+use Rattle.script.proofs.Reading.{none_long, none_else, same_text, no_text, parsed}
 use Rattle.script.proofs.number.number.Goals as goal
+use Rattle.script.proofs.number.number.Goals.{then-word-gt-DIGITS-via-then-word-gt-DIGITS, then-word-gt-DIGITS-via-else-word-gt-DIGITS+then-not-is_digits}
 
-pub returns-in_default : goal.returns-in_default
-returns-in_default c = sym (none_digit c.args.word.now c.loop-b.b-index (omega arith) c.in_default.ensures.value)
+pub returns-then-word-gt-DIGITS : goal.returns-then-word-gt-DIGITS
+returns-then-word-gt-DIGITS c =
+    elim c.then-word-gt-DIGITS.branch [
+      | then-word-gt-DIGITS-via-then-word-gt-DIGITS w ↦ none_long c.args.word.now w.if-word-gt-DIGITS.true
+      | then-word-gt-DIGITS-via-else-word-gt-DIGITS+then-not-is_digits w ↦ none_else c.args.word.now (sym w.is_digits.ensures ∙ w.if-not-is_digits.true)
+    ]
 
-pub overflow_mul-n : goal.overflow_mul-n
-overflow_mul-n c = search (rules, read_bound _ _ _ c.loop-b.invariant)
-
-pub overflow_add-n : goal.overflow_add-n
-overflow_add-n c = search (rules, read_bound _ _ _ c.loop-b.invariant)
-
-pub loop-b-preserved : goal.loop-b-preserved
-loop-b-preserved c =
-    let d = c.in-Some.ensures.value in
-    read_more _ _ _ (omega arith) _ d.0 (c.from.ensures ∙ d.1) c.loop-b.invariant
+pub returns-in_err-ok : goal.returns-in_err-ok
+returns-in_err-ok c =
+    absurd (no_text c.args.word.now _ c.from_utf8.result c.from_utf8.ensures.cases (sym c.ok.ensures.value ∙ c.in_err-ok.was) (sym c.is_digits.ensures ∙ c.if-not-is_digits.false))
 
 pub returns : goal.returns
 returns c =
-    let i : c.loop-b.b-index ≡ length c.args.word.now = omega arith in
-    c.ok.ensures.value ∙ tried _ c.loop-b.n (omega (arith, false-eqb _ 0 c.if-is_empty.ensures)) (omega arith) (subst (λ k. Read c.args.word.now k c.loop-b.n) i c.loop-b.invariant) _ c.try_from.ensures
+    let same = same_text c.args.word.now _ c.from_utf8.result c.in_ok-ok.field-0 c.from_utf8.ensures.cases (sym c.ok.ensures.value ∙ c.in_ok-ok.was) in
+    c.ok-2.ensures.value ∙ parsed c.args.word.now c.parse.result c.if-word-gt-DIGITS.false (sym c.is_digits.ensures ∙ c.if-not-is_digits.false) (subst (λ t. ParsesUnsigned 32 10 t c.parse.result) same c.parse.ensures.value.0)

@@ -1,9 +1,7 @@
-use Rattle.std.proofs.Common.{sym, refl, arith}
-use Rattle.std.proofs.lemmas.List.{take_all}
+use Rattle.std.proofs.Common.{length, take, refl, ap, ◌∙◌}
+use Rattle.std.proofs.Math.Nat.{min_comm}
+use Rattle.std.proofs.lemmas.List.{take_min}
 use Rattle.session.proofs.state.Lines.new.Goals as goal
 
 pub returns : goal.returns
-returns c = (sym (take_all 65536 c.args.script.now (omega arith)), refl)
-
-pub returns-then-script-gt65536 : goal.returns-then-script-gt65536
-returns-then-script-gt65536 c = (refl, refl)
+returns c = (ap (λ n. take n c.args.script.now) (c.min.ensures ∙ min_comm (length c.args.script.now) 65536) ∙ take_min 65536 c.args.script.now, refl)

@@ -1,14 +1,14 @@
-use Rattle.std.proofs.Common.{◌≡◌, ◌+◌, ◌<◌, ◌≤◌, ◌⊎◌, ◌++◌, length, vec_items, vec_len}
+use Rattle.std.proofs.Common.{◌≡◌, ◌<◌, ◌⊎◌, ◌++◌, length, vec_items, vec_len}
 use Rattle.script.specs.Words.{lines_of}
 use Rattle.session.specs.Transcript.{transcript}
 use Rattle.session.specs.Meaning.{state_of}
 use Rattle.session.proofs.state.Session.run.Given as goal
 
-abbrev pub invariant-loop-out : goal.invariant-loop-out
-invariant-loop-out l =
-    (vec_items l.out ++ transcript (state_of l.self) l.number (lines_of l.rest) ≡ vec_items l.initial.out ++ transcript (state_of l.initial.self) l.initial.number (lines_of l.initial.rest))
-    × (l.number + length l.rest ≤ 65537)
-    × ((length l.rest < length l.initial.rest) ⊎ ((vec_len l.out ≡ vec_len l.initial.out) × (length l.rest ≡ length l.initial.rest)))
+abbrev pub invariant-loop-lines : goal.invariant-loop-lines
+invariant-loop-lines l = record {
+  text : vec_items l.out ++ transcript (state_of l.self) l.lines.number (lines_of l.lines.rest.now) ≡ vec_items l.initial.out ++ transcript (state_of l.initial.self) l.initial.lines.number (lines_of l.initial.lines.rest.now);
+  goes : (length l.lines.rest.now < length l.initial.lines.rest.now) ⊎ ((vec_len l.out ≡ vec_len l.initial.out) × (length l.lines.rest.now ≡ length l.initial.lines.rest.now));
+}
 
-abbrev pub decreases-loop-out : goal.decreases-loop-out
-decreases-loop-out l = length l.rest
+abbrev pub decreases-loop-lines : goal.decreases-loop-lines
+decreases-loop-lines l = length l.lines.rest.now
