@@ -4,7 +4,7 @@ use Rattle.session.proofs.state.Session.open_new.Goals as goal
 
 pub returns : goal.returns
 returns c =
-    let few = c.in_ok-check.ensures in
-    let made = c.make.ensures.made few in
+    let few = c.in_ok-dense.ensures.answer in
+    let made = c.in_ok-dense.ensures.made in
     let asked = c.in_ok-reopen.ensures in
-    new_opened c.args.self.now _ c.args.rows c.args.columns c.args.value c.make.result.rows c.make.result.columns few made.0 made.1 refl asked.which asked.state
+    new_opened c.args.self.now _ c.args.rows c.args.columns c.args.value c.in_ok-dense.dense.rows c.in_ok-dense.dense.columns few made.0 made.1 refl asked.which asked.state
