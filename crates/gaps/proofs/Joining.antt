@@ -6,7 +6,7 @@ use Rattle.std.proofs.lemmas.Bool.{both_ways}
 use Rattle.layout.specs.declared.refusal.Refusal.{Refusal}
 use Rattle.layout.specs.declared.side.Side.{Side}
 use Rattle.moves.specs.Blocks.{block_of, columns_with, lines_in, rows_with}
-use Rattle.moves.specs.Stores.{items, room}
+use Rattle.moves.specs.Stores.{BehindKept, items, room}
 use Rattle.model.specs.Sheet.{Change, fill_lines}
 use Rattle.model.specs.Journal.{change}
 use Rattle.journal.specs.declared.parts.Note.{Note}
@@ -39,6 +39,7 @@ module _ {A : Type 0} (p q q' : Parts A) (side : Side) (i n : ℕ) (vs : List A)
             (subst (λ b. RowsTaken q.table.cells.now q'.table.cells.now b vs v) (λ j. block_of side (filled_rows j) (filled_columns j) i n) f.cells);
         saved = ap (λ s. items s) (f.saved ∙ o.saved) ∙ nothing_lost p (fill_lines (side_of side) i n vs v) (gap_lost (table_of p) i n vs v side o.room.there);
         runs = ap (λ s. map run_of (items s)) (f.runs ∙ o.runs) ∙ sym (append-nil _);
+        entries_behind = subst (λ s. BehindKept s q'.entries) o.entries f.entries_behind;
         entries = f.entries ∙ (λ j. items (o.entries j) ++ record { note = note; rows = o.rows j; columns = o.columns j; runs = 0; cells = 0 } ∷ []);
         room = same_room _ _ _ _ _ _ _ _ (f.cells.long ∙ o.cells.long) (f.room ∙ ap (λ s. room s) o.entries) (ap (λ s. room s) (f.runs ∙ o.runs)) (ap (λ s. room s) (f.saved ∙ o.saved));
       }

@@ -3,7 +3,7 @@ use Rattle.std.specs.Prelude.{◌≡◌, ℕ, ◌+◌, ◌≤◌, List, [], ◌�
 use Rattle.layout.specs.declared.refusal.Refusal.{Refusal}
 use Rattle.layout.specs.declared.side.Side.{Side}
 use Rattle.moves.specs.Blocks.{block_of, columns_with, lines_in, rows_with}
-use Rattle.moves.specs.Stores.{items, room}
+use Rattle.moves.specs.Stores.{BehindKept, items, room}
 use Rattle.moves.specs.Tables.{Extended}
 use Rattle.model.specs.Sheet.{fill_lines}
 use Rattle.model.specs.Journal.{change, verdict}
@@ -56,6 +56,7 @@ pub record Filled {A : Type 0} (p q : Parts A) (side : Side) (i n : ℕ) (vs : L
   pub columns : q.table.columns ≡ columns_with side (lines_in side p.table.rows p.table.columns + n) p.table.columns
   pub cells : RowsTaken p.table.cells.now q.table.cells.now (block_of side q.table.rows q.table.columns i n) vs v
   pub entries : items q.entries ≡ items p.entries ++ entry_for p (Note.Gap side i n) 0 0 ∷ []
+  pub entries_behind : BehindKept p.entries q.entries
   pub room : room q.entries ≡ room p.entries
   pub runs : q.runs ≡ p.runs
   pub saved : q.saved ≡ p.saved

@@ -15,7 +15,7 @@ use Rattle.journal.specs.declared.parts.Entry.{Entry}
 use Rattle.journal.specs.declared.parts.Parts.{Parts}
 use Rattle.journal.specs.View.{view, entries_of, runs_of, entry_of, run_of}
 use Rattle.journal.specs.Answering.{Answers, Held}
-use Rattle.journal.proofs.Answering.{same_sheet}
+use Rattle.journal.proofs.Answering.{same_room, same_sheet}
 use Rattle.journal.proofs.Asking.{entries_long, runs_long}
 use Rattle.leaving.specs.Leaving.{FormerFits, TakesBack, below}
 use Rattle.leaving.specs.Leaving as leaving
@@ -79,7 +79,7 @@ module _ {A : Type 0} (p : Parts A) (e : Entry) (held : Held p) (is : leaving.Ne
         (ap (λ zs. map entry_of (reverse zs)) w.entries)
         (ap (map run_of) w.runs ∙ sym (take-map run_of (length (items p.runs) - e.runs) (items p.runs)) ∙ ap (λ k. take (k - e.runs) (runs_of p)) (sym (runs_long p)))
         w.saved
-        w.room
+        (same_room _ _ _ _ _ _ _ _ w.cells_long (ap length w.entries_stand) (ap length w.runs_stand) (ap length w.saved_stand))
         ∙ sym (ap (λ qs. (taken_back (view p) qs).0) is)
 
     -- undone, if the cells are again those of whatever sheet was there before

@@ -1,9 +1,9 @@
 -- What every undo leaves besides the cells.
 use Rattle.std.specs.Prelude.{◌≡◌, ◌-◌, ◌*◌, ◌≤◌, List, ◌∷◌, map, reverse, length, take}
-use Rattle.moves.specs.Stores.{items}
+use Rattle.moves.specs.Stores.{items, stands}
 use Rattle.journal.specs.declared.parts.Entry.{Entry}
 use Rattle.journal.specs.declared.parts.Parts.{Parts}
-use Rattle.journal.specs.View.{entries_of, entry_of, room_of}
+use Rattle.journal.specs.View.{entries_of, entry_of}
 use Rattle.model.specs.Journal as model
 
 -- the entries below the newest
@@ -27,4 +27,7 @@ pub record TakesBack {A : Type 0} (p q : Parts A) (entry : Entry) : Type 0 where
   pub entries : items q.entries ≡ take (length (items p.entries) - 1) (items p.entries)
   pub runs : items q.runs ≡ take (length (items p.runs) - entry.runs) (items p.runs)
   pub saved : items q.saved ≡ take (length (items p.saved) - entry.cells) (items p.saved)
-  pub room : room_of q ≡ room_of p
+  pub entries_stand : stands q.entries ≡ stands p.entries
+  pub runs_stand : stands q.runs ≡ stands p.runs
+  pub saved_stand : stands q.saved ≡ stands p.saved
+  pub cells_long : length q.table.cells.now ≡ length p.table.cells.now

@@ -121,6 +121,7 @@ module _ {A : Type 0} (p : Parts A) (s : Side) (ks : List ℕ) (own : List Run) 
           cells = ap (λ k. take k q.table.cells.now) whole ∙ c.cells.put ∙ own_left;
           saved = c.saved ∙ ap (λ zs. saved_of p ++ zs) own_lost;
           runs = ap (map run_of) c.runs ∙ map-append run_of (items p.runs) own ∙ ap (λ zs. runs_of p ++ zs) e;
+          entries_behind = c.entries_behind;
           entries = c.entries ∙ ap (λ k. items p.entries ++ entry_for p (ListedRemoval s) k (cells_in s gone p.table.rows p.table.columns) ∷ []) (own_many ks (lines_in s p.table.rows p.table.columns) own e);
           room = c.room;
         }

@@ -2,7 +2,7 @@
 use Rattle.std.specs.Prelude.{◌≡◌, ℕ, ◌-◌, ◌≤◌, List, [], ◌∷◌, ◌++◌, map, length}
 use Rattle.layout.specs.declared.side.Side.{Side}
 use Rattle.moves.specs.Blocks.{cells_in, columns_with, lines_in, rows_with}
-use Rattle.moves.specs.Stores.{items}
+use Rattle.moves.specs.Stores.{BehindKept, items}
 use Rattle.journal.specs.declared.parts.Note.TheVariants.{ListedRemoval}
 use Rattle.journal.specs.declared.parts.Run.{Run}
 use Rattle.journal.specs.declared.parts.Parts.{Parts}
@@ -21,6 +21,7 @@ pub record Cut {A : Type 0} (p q : Parts A) (side : Side) (own : List Run) (gone
   pub cells : Behind p.table.cells.now q.table.cells.now 0 (spared (lines_of_side side p.table.rows p.table.columns) p.table.cells.now own)
   pub saved : items q.saved ≡ items p.saved ++ cut (lines_of_side side p.table.rows p.table.columns) p.table.cells.now own
   pub runs : items q.runs ≡ items p.runs ++ own
+  pub entries_behind : BehindKept p.entries q.entries
   pub entries : items q.entries ≡ items p.entries ++ entry_for p (ListedRemoval side) (length own) (cells_in side gone p.table.rows p.table.columns) ∷ []
   pub rows : q.table.rows ≡ rows_with side (lines_in side p.table.rows p.table.columns - gone) p.table.rows
   pub columns : q.table.columns ≡ columns_with side (lines_in side p.table.rows p.table.columns - gone) p.table.columns

@@ -3,6 +3,8 @@ use Rattle.std.proofs.Common.{◌≡◌, ℕ, ◌+◌, ◌*◌, ◌<◌, ◌≤�
 use Rattle.std.proofs.lemmas.List.{get_or_append_left, get_or-append-add, get_or-take, get_or-drop, length-take-le, length-drop}
 use Rattle.std.proofs.lemmas.Bool.{cases_lt}
 use Rattle.moves.specs.Slides.{Copied, Filled}
+use Rattle.moves.specs.declared.store.Store.{Store}
+use Rattle.moves.specs.Stores.{BehindKept, items}
 use Rattle.moves.specs.Blocks.{rows_block}
 use Rattle.moves.specs.Tables.{Saved}
 use Rattle.moves.proofs.Slides.{at}
@@ -39,6 +41,10 @@ module _ {X : Type 0} (src xs ys zs : List X) (rows i n : ℕ) where
         ];
         below = λ k d h. ap (λ z. get_or z k d) e ∙ get_or_append_left ys _ d k (omega (arith, s.long)) ∙ s.below k d h;
       }
+
+-- what was kept behind a store's items is kept behind those and more
+pub kept_on : {X : Type 0} (s t u : Store X) → BehindKept s t → length (items t) ≤ length (items u) → BehindKept t u → BehindKept s u
+kept_on s t u a l b k d h = b k d h ∙ a k d (omega arith)
 
 -- as Put, of the columns below c; the other columns are as in xs
 pub record Putting {X : Type 0} (src xs ys : List X) (rows i n c : ℕ) : Type 0 where

@@ -1,5 +1,5 @@
 -- What a store holds.
-use Rattle.std.specs.Prelude.{ℕ, List, length, take}
+use Rattle.std.specs.Prelude.{◌≡◌, ℕ, ◌≤◌, List, length, take, slice_index_or}
 use Rattle.moves.specs.declared.store.Store.{Store}
 
 abbrev pub items : {X : Type 0} → Store X → List X
@@ -8,3 +8,11 @@ items s = take s.used s.places.now
 -- how many items there are places for
 abbrev pub room : {X : Type 0} → Store X → ℕ
 room s = length s.places.now
+
+-- what stands in the places, in use or not
+abbrev pub stands : {X : Type 0} → Store X → List X
+stands s = s.places.now
+
+-- no place behind the items of t is other than in s
+abbrev pub BehindKept : {X : Type 0} → Store X → Store X → Type 0
+BehindKept {X} s t = (k : ℕ) (d : X) → length (items t) ≤ k → slice_index_or (stands t) k d ≡ slice_index_or (stands s) k d

@@ -2,7 +2,7 @@
 // column c is at r + c * rows. The lines of either side are such rows.
 ghost use Rattle.std.specs.Prelude.{◌≡◌, ◌+◌, ◌-◌, ◌*◌, ◌≤◌, length};
 ghost use Rattle.moves.specs.Blocks.{block_of, cells_in, cells_with, columns_with, lines_in, rows_with};
-ghost use Rattle.moves.specs.Stores.{items, room};
+ghost use Rattle.moves.specs.Stores.{BehindKept, items, room};
 ghost use Rattle.moves.specs.Tables.{Compressed, Extended, Inserted, Opened, Put, Restored, RowsFilled, Saved};
 
 use crate::blocks::{copy_block, fill_range, slide};
@@ -72,6 +72,7 @@ pub fn save_rows<T: Copy>(cells: &[T], b: Block, saved: &mut Store<'_, T>)
     requires { (b.first + b.count ≤ b.rows) × (b.rows * b.columns ≤ length cells.now) × (length (items saved.old) + b.count * b.columns ≤ room saved.old) }
     ensures saved { Saved cells.now (items saved.old) (items saved.new) b }
     ensures same { room saved.new ≡ room saved.old }
+    ensures behind { BehindKept saved.old saved.new }
 {
     for c in 0..b.columns {
         let from = b.first + c * b.rows;
@@ -134,6 +135,7 @@ impl<'a, T: Copy> Table<'a, T> {
         requires fits { length (items saved.old) + cells_in side n self.now.rows self.now.columns ≤ room saved.old }
         ensures saved { Saved self.now.cells.now (items saved.old) (items saved.new) (block_of side self.now.rows self.now.columns i n) }
         ensures same { room saved.new ≡ room saved.old }
+        ensures behind { BehindKept saved.old saved.new }
     {
         let b = self.block(side, i, n);
         save_rows(self.cells, b, saved);

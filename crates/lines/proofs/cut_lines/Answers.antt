@@ -22,5 +22,6 @@ returns g c =
       saved = saved_cells (table_of p) a.i a.n (right p) p.table.cells.now refl a.side c.requires.there _ _ c.save_lines.ensures.saved;
       runs = c.note_run.ensures.noted;
       entries = c.push.ensures.more ∙ ap (λ e. items p.entries ++ e ∷ []) (c.entry-entry.ensures ∙ ap₂ (entry_for p note) c.run_count.ensures c.cells_in-lost.ensures);
+      entries_behind = c.push.ensures.behind;
       room = same_room _ _ _ _ _ _ _ _ h.cells.long c.push.ensures.same c.note_run.ensures.same c.save_lines.ensures.same;
     }

@@ -20,5 +20,6 @@ returns g c =
       saved = nothing_lost p (insert_lines (side_of c.args.side) c.args.i c.args.n c.args.v) (inserted_lost (table_of p) c.args.i c.args.n c.args.side c.args.v c.requires.there);
       runs = sym (append-nil _);
       entries = c.push.ensures.more ∙ ap (λ e. items p.entries ++ e ∷ []) c.entry-entry.ensures;
+      entries_behind = c.push.ensures.behind;
       room = same_room _ _ _ _ _ _ _ _ h.cells.long c.push.ensures.same refl refl;
     }

@@ -1,12 +1,12 @@
 ghost use Rattle.std.specs.Prelude.{◌≡◌, ◌+◌, ◌-◌, ◌<◌, ◌≤◌, [], ◌∷◌, ◌++◌, length, take, drop};
-ghost use Rattle.moves.specs.Stores.{items, room};
+ghost use Rattle.moves.specs.Stores.{BehindKept, items, room, stands};
 
 use super::Store;
 
 impl<'a, X> Store<'a, X> {
     pub fn new(places: &'a mut [X]) -> Store<'a, X>
         ensures empty { items result ≡ [] }
-        ensures same { room result ≡ length places.old }
+        ensures same { stands result ≡ places.old }
     {
         Store { places, used: 0 }
     }
@@ -44,14 +44,14 @@ impl<'a, X> Store<'a, X> {
     pub fn forget(&mut self, n: usize)
         requires { n ≤ length (items self.old) }
         ensures left { items self.new ≡ take (length (items self.old) - n) (items self.old) }
-        ensures same { room self.new ≡ room self.old }
+        ensures same { stands self.new ≡ stands self.old }
     {
         self.used -= n;
     }
 
     pub fn clear(&mut self)
         ensures empty { items self.new ≡ [] }
-        ensures same { room self.new ≡ room self.old }
+        ensures same { stands self.new ≡ stands self.old }
     {
         self.used = 0;
     }
@@ -62,6 +62,7 @@ impl<'a, X: Copy> Store<'a, X> {
         requires { length (items self.old) < room self.old }
         ensures more { items self.new ≡ items self.old ++ item ∷ [] }
         ensures same { room self.new ≡ room self.old }
+        ensures behind { BehindKept self.old self.new }
     {
         self.places[self.used] = item;
         self.used += 1;
@@ -71,6 +72,7 @@ impl<'a, X: Copy> Store<'a, X> {
         requires { length (items self.old) + length list.now ≤ room self.old }
         ensures more { items self.new ≡ items self.old ++ list.now }
         ensures same { room self.new ≡ room self.old }
+        ensures behind { BehindKept self.old self.new }
     {
         let end = self.used + list.len();
         self.places[self.used..end].copy_from_slice(list);

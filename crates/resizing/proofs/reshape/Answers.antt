@@ -22,6 +22,7 @@ returns g c =
       cells = resized_cells (table_of p) (right p) p.table.cells.now refl m n c.args.v _ c.requires.cells h.cells;
       saved = saved_cells (table_of p) (right p) p.table.cells.now refl m n c.args.v _ _ c.save_outside.ensures.saved;
       runs = sym (append-nil _);
+      entries_behind = c.push.ensures.behind;
       entries = c.push.ensures.more ∙ ap (λ e. items p.entries ++ e ∷ []) (c.entry-entry.ensures ∙ ap (entry_for p note 0) c.lost_count-lost.ensures);
       room = same_room _ _ _ _ _ _ _ _ h.cells.long c.push.ensures.same refl c.save_outside.ensures.same;
     }

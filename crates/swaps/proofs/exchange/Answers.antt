@@ -21,6 +21,7 @@ returns g c =
       cells = exchanged_cells a.side (table_of p) a.i a.j there.0 there.1 (right p) p.table.cells.now _ h.cells refl;
       saved = nothing_lost p (swap_lines (side_of a.side) a.i a.j) (lost a.side (table_of p) a.i a.j there.0 there.1);
       runs = sym (append-nil _);
+      entries_behind = c.push.ensures.behind;
       entries = c.push.ensures.more ∙ ap (λ e. items p.entries ++ e ∷ []) c.entry-entry.ensures;
       room = same_room _ _ _ _ _ _ _ _ (swapped_long a.side _ _ _ _ _ h.cells) c.push.ensures.same refl refl;
     }

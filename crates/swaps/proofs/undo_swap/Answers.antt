@@ -41,7 +41,10 @@ returns g c =
       entries = w.entries;
       runs = w.runs;
       saved = w.saved;
-      room = w.room ∙ same_room _ _ _ _ _ _ _ _ (swapped_long side _ _ _ _ _ s) refl refl refl;
+      entries_stand = w.entries_stand;
+      runs_stand = w.runs_stand;
+      saved_stand = w.saved_stand;
+      cells_long = w.cells_long ∙ swapped_long side _ _ _ _ _ s;
     })
     (Coded-set g.row.T.coded)
     (swapped_back p e c.requires.held c.requires.newest side i j c.requires.noted _

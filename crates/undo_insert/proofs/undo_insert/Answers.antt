@@ -37,7 +37,10 @@ returns g c =
       entries = w.entries;
       runs = w.runs;
       saved = w.saved;
-      room = w.room ∙ same_room _ _ _ _ _ _ _ _ h.long refl refl refl;
+      entries_stand = w.entries_stand;
+      runs_stand = w.runs_stand;
+      saved_stand = w.saved_stand;
+      cells_long = w.cells_long ∙ h.long;
     })
     (Coded-set g.row.T.coded)
     (lines_back p e c.requires.held c.requires.newest a.i a.n a.side c.requires.noted _

@@ -20,7 +20,10 @@ returns g c =
       entries = w.entries;
       runs = w.runs;
       saved = w.saved;
-      room = w.room ∙ same_room _ _ _ _ _ _ _ _ h.long refl refl refl;
+      entries_stand = w.entries_stand;
+      runs_stand = w.runs_stand;
+      saved_stand = w.saved_stand;
+      cells_long = w.cells_long ∙ h.long;
     })
     (Coded-set g.row.T.coded)
     (λ v. ap (λ r. take (v.former.table.rows * v.former.table.columns) r.now) c.leave.ensures.cells ∙ table_back p e held is c.requires.noted _ c.newest-own.ensures v _ h)

@@ -1,5 +1,6 @@
 use Rattle.std.proofs.Common.{◌-◌, ◌*◌, sym, ap₂, mul_comm, arith}
 use Rattle.moves.proofs.Places.{columns_wider}
+use Rattle.moves.proofs.Saves.{kept_on}
 use Rattle.model.proofs.Resized.{outside}
 use Rattle.resizing.proofs.Corners.{outside_saved}
 use Rattle.resizing.proofs.shapes.save_outside.Goals as goal
@@ -25,3 +26,6 @@ returns-clause-saved g c =
     let t = c.args.table.now in
     rw (sym c.min-upper.ensures, sym c.min-left.ensures)
     (outside_saved t.rows t.columns c.min-upper.result c.min-left.result (omega arith) (omega arith) _ _ _ _ c.save_rows.ensures.saved c.save_lines.ensures.saved)
+
+pub returns-clause-behind : goal.returns-clause-behind
+returns-clause-behind g c = kept_on c.args.saved.now _ _ c.save_rows.ensures.behind (omega (arith, c.save_lines.ensures.saved.long)) c.save_lines.ensures.behind

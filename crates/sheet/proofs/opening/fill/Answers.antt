@@ -1,4 +1,4 @@
-use Rattle.std.proofs.Common.{◌*◌, map, reverse, take, ap, ◌∙◌, ap₂}
+use Rattle.std.proofs.Common.{◌*◌, map, reverse, length, take, ap, ◌∙◌, ap₂}
 use Rattle.model.specs.Journal.{opened}
 use Rattle.journal.specs.View.{entry_of, room_of, run_of}
 use Rattle.journal.proofs.Answering.{same_sheet, same_room}
@@ -13,4 +13,4 @@ returns g c =
     same_sheet _ (opened (table_in grid c.args.source.now) (room_of c.args.p.now)) h.shape.0 h.shape.1
     (ap (λ k. take k c.copy_table.new.table.cells.now) (ap₂ ◌*◌ h.shape.0 h.shape.1) ∙ cloned_cells grid (g.L.Layout.lawful c.args.layout.now) c.args.source.now c.requires.0 _ _ c.requires.1 h.cells)
     (ap (λ zs. map entry_of (reverse zs)) c.clear.ensures.empty) (ap (map run_of) c.clear-2.ensures.empty) c.clear-3.ensures.empty
-    (same_room _ _ _ _ _ _ _ _ h.cells.long c.clear.ensures.same c.clear-2.ensures.same c.clear-3.ensures.same)
+    (same_room _ _ _ _ _ _ _ _ h.cells.long (ap length c.clear.ensures.same) (ap length c.clear-2.ensures.same) (ap length c.clear-3.ensures.same))
