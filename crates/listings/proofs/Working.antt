@@ -1,33 +1,36 @@
 -- Runs found and lines taken out, put together to the change that the model has.
-use Rattle.std.proofs.Common.{◌≡◌, ℕ, ◌+◌, ◌-◌, ◌*◌, ◌<◌, ◌≤◌, true, false, List, [], ◌∷◌, ◌++◌, map, length, take, sym, refl, ap, ◌∙◌, subst, ap₂, sum_by, arith}
+use Rattle.std.proofs.Common.{◌≡◌, ℕ, Ok, Err, ◌+◌, ◌-◌, ◌*◌, ◌<◌, ◌≤◌, true, List, [], ◌∷◌, ◌++◌, map, length, take, sym, refl, ap, ◌∙◌, subst, ap₂, sum_by, arith}
 use mathlib.Core.List.{map-append}
 use Rattle.std.proofs.lemmas.Bool.{le-ltb, lt-ltb}
 use Rattle.std.proofs.lemmas.List.{length-map}
+use Rattle.layout.specs.declared.refusal.Refusal.{Refusal}
+use Rattle.layout.specs.Refusals.{number_of}
 use Rattle.layout.specs.declared.side.Side.{Side}
 use Rattle.layout.specs.declared.side.Side.TheVariants.{Rows, Columns}
 use Rattle.moves.specs.Blocks.{cells_in, columns_with, lines_in, rows_with}
 use Rattle.moves.specs.Stores.{items}
 use Rattle.model.specs.Sheet.{listed, remove_listed, Table, changed}
-use Rattle.model.specs.Journal.{Answer, Right, first_no, has_column, lines_of, runs_from, lost_of}
+use Rattle.model.specs.Journal.{Answer, Right, change, done, first_no, refused, has_column, lines_of, runs_from, lost_of}
 use Rattle.model.proofs.Undo.{right_changed}
-use Rattle.model.proofs.Listed.{Numbers, goes, goes_few, rows_listed, columns_listed}
+use Rattle.model.proofs.Listed.{counted, Numbers, goes, goes_few, rows_listed, columns_listed}
 use Rattle.journal.specs.declared.parts.Note.TheVariants.{ListedRemoval}
 use Rattle.journal.specs.declared.parts.Run.{Run}
 use Rattle.journal.specs.declared.parts.Parts.{Parts}
 use Rattle.journal.specs.View.{run_of, runs_of, saved_of, side_of, table_of, view}
 use Rattle.journal.specs.Entering.{entry_for}
-use Rattle.journal.specs.Answering.{Performed}
+use Rattle.journal.specs.Answering.{Answers, Held, Performed}
 use Rattle.journal.specs.Asking.{rooms}
 use Rattle.journal.proofs.Asking.{asked_as}
-use Rattle.journal.proofs.Answering.{right}
+use Rattle.journal.proofs.Answering.{accepted, right}
 use Rattle.listed.specs.Runs.{Rising}
 use Rattle.listed.specs.Cuts.{between, cut, lines_of_side, spared, taken_of}
 use Rattle.listed.proofs.Walks.{lines_summed, runs_rising}
 use Rattle.listings.specs.Cut.{Cut, Own}
+use Rattle.listings.proofs.Questions.{columnless, stopped_early}
 use Rattle.listings.proofs.Cells.{cells_left, cells_lost}
 
 -- the change in numbers, with the lines that were counted
-pub numbers : {A : Type 0} (t : Table A) (ks : List ℕ) (s : Side) (gone : ℕ) → Right t → gone ≡ goes ks (lines_in s t.rows t.columns)
+numbers : {A : Type 0} (t : Table A) (ks : List ℕ) (s : Side) (gone : ℕ) → Right t → gone ≡ goes ks (lines_in s t.rows t.columns)
     → Numbers t (remove_listed (side_of s) ks) (rows_with s (lines_in s t.rows t.columns - gone) t.rows) (columns_with s (lines_in s t.rows t.columns - gone) t.columns)
     (runs_from (listed ks) 0 (lines_in s t.rows t.columns)) (cells_in s gone t.rows t.columns)
 numbers t ks s gone right e =
@@ -47,10 +50,7 @@ lines_few p Rows = p.table.few_rows
 lines_few p Columns = p.table.few_columns
 
 -- question 9: rows leave only where a column is there
-pub no_column : {A : Type 0} (t : Table A) (ks : List ℕ) (s : Side) → s ≡ Rows → t.columns ≡ 0 → has_column t (remove_listed (side_of s) ks) ≡ false
-no_column t ks s e none = ap (λ z. has_column t (remove_listed (side_of z) ks)) e ∙ le-ltb 0 t.columns (omega arith)
-
-pub some_column : {A : Type 0} (t : Table A) (ks : List ℕ) (s : Side) → (s ≡ Rows → 0 < t.columns) → has_column t (remove_listed (side_of s) ks) ≡ true
+some_column : {A : Type 0} (t : Table A) (ks : List ℕ) (s : Side) → (s ≡ Rows → 0 < t.columns) → has_column t (remove_listed (side_of s) ks) ≡ true
 some_column t ks Rows h = lt-ltb 0 t.columns (h refl)
 some_column t ks Columns h = refl
 
@@ -85,16 +85,6 @@ module _ {A : Type 0} (p : Parts A) (s : Side) (ks : List ℕ) (own : List Run) 
       ap (λ zs. taken_of w.width (w.count * w.width) 0 w.groups p.table.cells.now (between 0 zs w.count)) e ∙ cells_left (table_of p) p.table.cells.now refl ks s
 
   module _ (gone : ℕ) (f : gone ≡ goes ks (lines_in s p.table.rows p.table.columns)) where
-    -- the questions, asked of numbers that come to the same
-    pub asked : (a : Answer) (k m n l : ℕ) → k ≡ lines_in s p.table.rows p.table.columns
-        → (m ≡ rows_with s (k - gone) p.table.rows) × (n ≡ columns_with s (k - gone) p.table.columns) → l ≡ cells_in s gone p.table.rows p.table.columns
-        → a ≡ first_no (rooms (view p) m n (length own) l)
-        → a ≡ first_no (rooms (view p) (rows_with s (lines_in s p.table.rows p.table.columns - gone) p.table.rows) (columns_with s (lines_in s p.table.rows p.table.columns - gone) p.table.columns)
-        (length (runs_from (listed ks) 0 (lines_in s p.table.rows p.table.columns))) (cells_in s gone p.table.rows p.table.columns))
-    asked a k m n l ek shape el =
-        asked_as p a m n (length own) l _ _ _ _ (shape.0 ∙ ap (λ z. rows_with s (z - gone) p.table.rows) ek) (shape.1 ∙ ap (λ z. columns_with s (z - gone) p.table.columns) ek)
-        (own_many ks (lines_in s p.table.rows p.table.columns) own e) el
-
     pub own_runs : Own p s own gone
     own_runs = record {
       rising = own_rises ks (lines_in s p.table.rows p.table.columns) own e;
@@ -103,7 +93,7 @@ module _ {A : Type 0} (p : Parts A) (s : Side) (ks : List ℕ) (own : List Run) 
     }
 
     -- lines taken out
-    pub performed_cut : (q : Parts A) → Cut p q s own gone
+    performed_cut : (q : Parts A) → Cut p q s own gone
         → Performed p q (remove_listed (side_of s) ks) (rows_with s (lines_in s p.table.rows p.table.columns - gone) p.table.rows) (columns_with s (lines_in s p.table.rows p.table.columns - gone) p.table.columns)
         (runs_from (listed ks) 0 (lines_in s p.table.rows p.table.columns)) (cells_in s gone p.table.rows p.table.columns)
     performed_cut q c =
@@ -125,3 +115,26 @@ module _ {A : Type 0} (p : Parts A) (s : Side) (ks : List ℕ) (own : List Run) 
           entries = c.entries ∙ ap (λ k. items p.entries ++ entry_for p (ListedRemoval s) k (cells_in s gone p.table.rows p.table.columns) ∷ []) (own_many ks (lines_in s p.table.rows p.table.columns) own e);
           room = c.room;
         }
+
+    -- the answers, from the questions asked of numbers that come to the same
+    module _ (k m n l : ℕ) (ek : k ≡ lines_in s p.table.rows p.table.columns)
+        (shape : (m ≡ rows_with s (k - gone) p.table.rows) × (n ≡ columns_with s (k - gone) p.table.columns)) (el : l ≡ cells_in s gone p.table.rows p.table.columns) (h : Held p) where
+      asked : (a : Answer) → a ≡ first_no (rooms (view p) m n (length own) l)
+          → a ≡ first_no (rooms (view p) (rows_with s (lines_in s p.table.rows p.table.columns - gone) p.table.rows) (columns_with s (lines_in s p.table.rows p.table.columns - gone) p.table.columns)
+          (length (runs_from (listed ks) 0 (lines_in s p.table.rows p.table.columns))) (cells_in s gone p.table.rows p.table.columns))
+      asked a =
+          asked_as p a m n (length own) l _ _ _ _ (shape.0 ∙ ap (λ z. rows_with s (z - gone) p.table.rows) ek) (shape.1 ∙ ap (λ z. columns_with s (z - gone) p.table.columns) ek)
+          (own_many ks (lines_in s p.table.rows p.table.columns) own e) el
+
+      pub stopped : (x : Refusal) → refused (number_of x) ≡ first_no (rooms (view p) m n (length own) l) → Answers p p (change (remove_listed (side_of s) ks)) (Err x)
+      stopped x w = stopped_early p (remove_listed (side_of s) ks) _ _ _ _ (numbers (table_of p) ks s gone (right p) f) h x (asked (refused (number_of x)) w)
+
+      pub no_column : done ≡ first_no (rooms (view p) m n (length own) l) → s ≡ Rows → p.table.columns ≡ 0 → Answers p p (change (remove_listed (side_of s) ks)) (Err Refusal.NoColumn)
+      no_column w rows none =
+          columnless p (remove_listed (side_of s) ks) _ _ _ _ (numbers (table_of p) ks s gone (right p) f) h (asked done w)
+          (ap (λ z. has_column (table_of p) (remove_listed (side_of z) ks)) rows ∙ le-ltb 0 p.table.columns (omega arith))
+
+      pub carried_out : (q : Parts A) → done ≡ first_no (rooms (view p) m n (length own) l) → (s ≡ Rows → 0 < p.table.columns) → Cut p q s own gone
+          → Answers p q (change (remove_listed (side_of s) ks)) (Ok tt)
+      carried_out q w there c =
+          accepted p q (remove_listed (side_of s) ks) _ _ _ _ (counted _ _ _ _ _ _ (numbers (table_of p) ks s gone (right p) f) (some_column (table_of p) ks s there)) (performed_cut q c) h (asked done w)
