@@ -48,7 +48,7 @@ pub fn write<L: Layout, T: Copy>(layout: &L, buffer: &mut [T], row: u32, column:
 }
 
 // Copies one column of a layout's table to its place in a dense one.
-// By index: of a part of `cells` that was lent out, a proof knows only the length afterwards.
+// By index: zipped with a part of `cells`, the loop would not know its row to be below `rows`.
 fn clone_column<L: Layout, T: Copy>(
     layout: &L,
     source: &[T],
