@@ -37,7 +37,7 @@ impl<'a, X> Store<'a, X> {
     pub fn spare(&self) -> usize
         ensures { length (items self.now) + result ≡ room self.now }
     {
-        self.places.len() - self.used
+        self.capacity() - self.used
     }
 
     // Forgets the last n items.

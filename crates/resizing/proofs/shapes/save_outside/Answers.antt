@@ -28,4 +28,4 @@ returns-clause-saved g c =
     (outside_saved t.rows t.columns c.min-upper.result c.min-left.result (omega arith) (omega arith) _ _ _ _ c.save_rows.ensures.saved c.save_lines.ensures.saved)
 
 pub returns-clause-behind : goal.returns-clause-behind
-returns-clause-behind g c = kept_on c.args.saved.now _ _ c.save_rows.ensures.behind (omega (arith, c.save_lines.ensures.saved.long)) c.save_lines.ensures.behind
+returns-clause-behind g c = kept_on c.args.saved.now c.save_rows.new.saved c.save_lines.new.saved c.save_rows.ensures.behind (omega (arith, c.save_lines.ensures.saved.long)) c.save_lines.ensures.behind
