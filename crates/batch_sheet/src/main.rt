@@ -23,6 +23,7 @@ const SAVED: usize = 4096;
 fn obey(rt: &HostRuntime, session: &mut Session<'_, '_>, script: &[u8]) -> anyhow::Result<()> {
     let mut out = Vec::new(rt.alloc());
     let mut lines = Lines::new(script);
+    // Until the lines are used up: a turn obeys as many as the text has room for.
     while !lines.is_empty() {
         session.run(&mut lines, &mut out)?;
         rt.stdout().write_all(out.as_slice())?;

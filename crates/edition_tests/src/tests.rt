@@ -9,7 +9,7 @@ use layout::matrix_view::Strided;
 use layout::refusal::Refusal;
 use layout::storage::Layout;
 use layout::vec_storage::Dense;
-use marked::{Marked, note, same_marks};
+use marked::{Marked, TABLE, note, same_marks};
 use std::process::Abort;
 
 #[derive(Clone, Copy)]
@@ -112,8 +112,6 @@ fn selects(rt: &impl Abort, seen: Seen<'_>, call: Call<'_>, written: &[u32]) {
 fn refuses(rt: &impl Abort, seen: Seen<'_>, call: Call<'_>, refusal: Refusal) {
     both_kinds(rt, seen, call, Err(refusal), (&TABLE, &[]));
 }
-
-const TABLE: [u32; 6] = [1, 2, 3, 4, 5, 6];
 
 const DENSE: Seen<'static> = Seen::Dense(3, 2);
 

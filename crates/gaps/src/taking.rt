@@ -1,4 +1,5 @@
-// Blocks of cells that take a list, and a value where the list is used up.
+// Blocks of cells that take a list, and a value where the list is used up. The two come one by one, as in the call that
+// hands them on: a struct of them would be made only to be taken apart.
 ghost use Rattle.std.specs.Prelude.{◌+◌, ◌*◌, ◌≤◌, length};
 ghost use Rattle.gaps.specs.Taken.{RowsTaken, Taken};
 

@@ -11,7 +11,8 @@ use Rattle.model.specs.Journal as model
 use Rattle.model.specs.Journal.{Call, lost_of, refused, step}
 use Rattle.model.specs.Reached.{Reachable}
 
--- the parts are those of a sheet: some opening and some calls lead to what they hold
+-- the parts are those of a sheet: some opening and some calls lead to what they hold. `Sheet` has it as a ghost field;
+-- parts have not, since a change has them on the way between two sheets
 abbrev pub Held : {A : Type 0} → Parts A → Type 0
 Held p = Reachable (view p)
 

@@ -39,7 +39,8 @@ pub enum Refusal {
 }
 
 impl Refusal {
-    // The number of the question that was answered no.
+    // The number of the question that was answered no. A match, since contracts say the numbers by one definition and
+    // discriminants would say them again.
     pub fn number(self) -> u8
         ensures { result ≡ number_of self }
     {

@@ -60,6 +60,9 @@ impl Marked for WeighingNote {
     }
 }
 
+// The table of most examples, of three rows and two columns.
+pub const TABLE: [u32; 6] = [1, 2, 3, 4, 5, 6];
+
 // The note of a number.
 pub fn note(n: u32) -> WeighingNote
     ensures { result ≡ note_of n }

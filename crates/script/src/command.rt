@@ -108,6 +108,7 @@ impl From<UnknownVerb> for Fault {
     }
 }
 
+// A function: `Side` is another crate's type, so `TryFrom` for it cannot stand here.
 fn side_of(letter: u8) -> Result<Side, UnknownVerb>
     ensures { result_ok result ≡ side_of letter }
 {

@@ -70,7 +70,7 @@ impl<'s, 'a> Session<'s, 'a> {
         self.sheet.remove_lines(side, at, count)
     }
 
-    // Carries out a command; first of all a sheet must be open for it.
+    // Carries out a command; first of all a sheet must be open for it. A match: each command has numbers of its own.
     fn perform(&mut self, command: Command) -> Result<(), Refusal>
         ensures which { answered result ≡ (performed (state_of self.old) command).1 }
         ensures state { state_of self.new ≡ (performed (state_of self.old) command).0 }

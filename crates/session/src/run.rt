@@ -53,6 +53,7 @@ impl<'s, 'a> Session<'s, 'a> {
         ensures text { OnOk result (out.new.items ++ transcript (state_of self.new) lines.new.number (lines_of lines.new.rest.now) ≡ out.old.items ++ transcript (state_of self.old) lines.old.number (lines_of lines.old.rest.now)) }
         ensures goes { OnOk result ((0 < length lines.old.rest.now → vec_len out.old < 65536 → length lines.new.rest.now < length lines.old.rest.now)) }
     {
+        // It stops for want of room too, so this is no `for`.
         while out.len() < 65536
             && let Some((number, line)) = lines.next()
         {

@@ -3,7 +3,7 @@ use journal::parts::{Entry, NO_ENTRY, NO_RUN, Run};
 use layout::refusal::Refusal;
 use layout::storage::Layout;
 use layout::vec_storage::Dense;
-use marked::{Marked, note, same_marks};
+use marked::{Marked, TABLE, note, same_marks};
 use sheet::sheet::Sheet;
 use std::process::Abort;
 
@@ -28,8 +28,6 @@ struct After<'e> {
     saved: &'e [u32],
     runs: &'e [(u32, u32)],
 }
-
-const TABLE: [u32; 6] = [1, 2, 3, 4, 5, 6];
 
 const SAME: After<'static> = After {
     shape: (3, 2),
