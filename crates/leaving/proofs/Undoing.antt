@@ -5,6 +5,7 @@ use native.Mathlib.Bridge.{le_prop}
 use Rattle.std.proofs.Math.Seq.{take-length}
 use Rattle.std.proofs.lemmas.List.{take_more, take-map, reverse-append}
 use Rattle.layout.specs.declared.refusal.Refusal.{Refusal}
+use Rattle.moves.specs.declared.vec_storage.Table.{Table}
 use Rattle.moves.specs.Stores.{items}
 use Rattle.model.specs.Journal as model
 use Rattle.model.specs.Journal.{Sheet, lost_of, before, step, undo, taken_back, done, refused, all_but}
@@ -110,3 +111,24 @@ nothing_back p held none =
       same = λ k z. refl;
       held = held;
     }
+
+-- cells were moved, and then the entry leaves
+module _ {A : Type 0} (p : Parts A) (t : Table A) (e : Entry) (long : length t.cells.now ≡ length p.table.cells.now) where
+  abbrev pub moved : Parts A
+  moved = record { table = t; entries = p.entries; runs = p.runs; saved = p.saved }
+
+  pub moved_fits : FormerFits p e → FormerFits moved e
+  moved_fits f = record { rows = f.rows; columns = f.columns; cells = omega (arith, f.cells) }
+
+  pub moved_back : (q : Parts A) → TakesBack moved q e → TakesBack p q e
+  moved_back q w = record {
+    rows = w.rows;
+    columns = w.columns;
+    entries = w.entries;
+    runs = w.runs;
+    saved = w.saved;
+    entries_stand = w.entries_stand;
+    runs_stand = w.runs_stand;
+    saved_stand = w.saved_stand;
+    cells_long = w.cells_long ∙ long;
+  }

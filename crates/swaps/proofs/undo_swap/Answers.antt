@@ -1,8 +1,7 @@
-use Rattle.std.proofs.Common.{◌≡◌, sym, refl, ap, ◌∙◌, subst, arith}
+use Rattle.std.proofs.Common.{◌≡◌, sym, ap, subst, arith}
 use base.Stored.{Coded-set}
 use Rattle.layout.specs.Lawful.{dense}
-use Rattle.journal.proofs.Answering.{same_room}
-use Rattle.leaving.proofs.Undoing.{former_fits, own_cells, own_runs, some_entry, undone}
+use Rattle.leaving.proofs.Undoing.{former_fits, moved_back, own_cells, own_runs, some_entry, undone}
 use Rattle.swaps.specs.Exchange.{Swapped}
 use Rattle.swaps.proofs.Exchanging.{swapped_long}
 use Rattle.swaps.proofs.Back.{lines_there, swapped_back}
@@ -32,20 +31,9 @@ returns g c =
     let i = c.args.i in
     let j = c.args.j in
     let s = c.swap_cells.ensures.cells in
-    let w = c.leave.ensures.rest in
     let left : c.swap_cells.new.table.cells.now ≡ c.leave.new.p.table.cells.now = sym (ap (λ r. r.now) c.leave.ensures.cells) in
     undone p e c.requires.held c.requires.newest c.leave.new.p
-    (record {
-      rows = w.rows;
-      columns = w.columns;
-      entries = w.entries;
-      runs = w.runs;
-      saved = w.saved;
-      entries_stand = w.entries_stand;
-      runs_stand = w.runs_stand;
-      saved_stand = w.saved_stand;
-      cells_long = w.cells_long ∙ swapped_long side _ _ _ _ _ s;
-    })
+    (moved_back p c.swap_cells.new.table e (swapped_long side _ _ _ _ _ s) c.leave.new.p c.leave.ensures.rest)
     (Coded-set g.row.T.coded)
     (swapped_back p e c.requires.held c.requires.newest side i j c.requires.noted _
     (subst (λ z. Swapped side (dense p.table.rows p.table.columns) p.table.cells.now z i j) left s))

@@ -1,9 +1,8 @@
-use Rattle.std.proofs.Common.{List, MutBor, sym, refl, ap, ◌∙◌, subst, arith}
+use Rattle.std.proofs.Common.{List, MutBor, sym, ap, subst, arith}
 use base.Stored.{Coded-set}
 use Rattle.moves.specs.Blocks.{block_of}
 use Rattle.moves.specs.Tables.{Compressed}
-use Rattle.journal.proofs.Answering.{same_room}
-use Rattle.leaving.proofs.Undoing.{former_fits, own_cells, own_runs, some_entry, undone}
+use Rattle.leaving.proofs.Undoing.{former_fits, moved_back, own_cells, own_runs, some_entry, undone}
 use Rattle.undo_insert.proofs.Undoing.{lines_there, lines_back}
 use Rattle.undo_insert.proofs.undo_insert.Goals as goal
 
@@ -28,20 +27,9 @@ returns g c =
     let e = c.args.entry in
     let a = c.args in
     let h = c.remove_lines.ensures.cells in
-    let w = c.leave.ensures.rest in
     let left = sym (ap (λ (r : MutBor (List g.row.T.Denot)). r.now) c.leave.ensures.cells) in
     undone p e c.requires.held c.requires.newest c.leave.new.p
-    (record {
-      rows = w.rows;
-      columns = w.columns;
-      entries = w.entries;
-      runs = w.runs;
-      saved = w.saved;
-      entries_stand = w.entries_stand;
-      runs_stand = w.runs_stand;
-      saved_stand = w.saved_stand;
-      cells_long = w.cells_long ∙ h.long;
-    })
+    (moved_back p c.remove_lines.new.self e (h.long) c.leave.new.p c.leave.ensures.rest)
     (Coded-set g.row.T.coded)
     (lines_back p e c.requires.held c.requires.newest a.i a.n a.side c.requires.noted _
     (subst (λ z. Compressed p.table.cells.now z (block_of a.side p.table.rows p.table.columns a.i a.n)) left h))

@@ -1,7 +1,6 @@
-use Rattle.std.proofs.Common.{◌*◌, take, refl, ap, ◌∙◌, arith}
+use Rattle.std.proofs.Common.{◌*◌, take, ap, ◌∙◌, arith}
 use base.Stored.{Coded-set}
-use Rattle.journal.proofs.Answering.{same_room}
-use Rattle.leaving.proofs.Undoing.{former_fits, own_cells, own_runs, some_entry, undone}
+use Rattle.leaving.proofs.Undoing.{former_fits, moved_back, own_cells, own_runs, some_entry, undone}
 use Rattle.undo_resize.proofs.Taking.{all_there, table_back}
 use Rattle.undo_resize.proofs.undo_resize.Goals as goal
 
@@ -11,20 +10,9 @@ returns g c =
     let e = c.args.entry in
     let held = c.requires.held in
     let is = c.requires.newest in
-    let w = c.leave.ensures.rest in
     let h = c.bring_back_shape.ensures.cells in
     undone p e held is c.leave.new.p
-    (record {
-      rows = w.rows;
-      columns = w.columns;
-      entries = w.entries;
-      runs = w.runs;
-      saved = w.saved;
-      entries_stand = w.entries_stand;
-      runs_stand = w.runs_stand;
-      saved_stand = w.saved_stand;
-      cells_long = w.cells_long ∙ h.long;
-    })
+    (moved_back p c.bring_back_shape.new.table e (h.long) c.leave.new.p c.leave.ensures.rest)
     (Coded-set g.row.T.coded)
     (λ v. ap (λ r. take (v.former.table.rows * v.former.table.columns) r.now) c.leave.ensures.cells ∙ table_back p e held is c.requires.noted _ c.newest-own.ensures v _ h)
 
