@@ -20,7 +20,8 @@ pub record Roomy {A : Type 0} (p : Parts A) (side : Side) (i n : ℕ) : Type 0 w
   pub there : i ≤ lines_in side p.table.rows p.table.columns
   pub fits : Fits p (rows_with side (lines_in side p.table.rows p.table.columns + n) p.table.rows) (columns_with side (lines_in side p.table.rows p.table.columns + n) p.table.columns) 0 0
 
--- q is p with its cells moved apart for n lines at i; what stands between them is not said
+-- q is p with its cells moved apart for n lines at i; what stands between them is not spoken of but in the first gap,
+-- where it is what stood there
 pub record Parted {A : Type 0} (p q : Parts A) (side : Side) (i n : ℕ) : Type 0 where
   pub room : Roomy p side i n
   pub cells : Extended p.table.cells.now q.table.cells.now (block_of side p.table.rows p.table.columns i n)

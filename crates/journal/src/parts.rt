@@ -72,7 +72,7 @@ impl<'a, T> Parts<'a, T> {
         saved: &'a mut [T],
     ) -> Parts<'a, T>
         requires { length cells.old ≤ 65536 }
-        ensures { Holds result cells.old (length entries.old) (length runs.old) (length saved.old) }
+        ensures { Holds result cells.old entries.old runs.old saved.old }
     {
         Parts {
             table: Table::new(cells),

@@ -23,8 +23,8 @@ pub struct Strided {
     ghost apart: { ∥ Apart row_step column_step rows columns ∥₁ },
 }
 
-// Sums and products of any steps stay below 2^64. The five numbers come one by one, as to `new`: they are the fields of
-// `Strided`, which does not stand before they are tested.
+// Sums and products of any steps stay below 2^64. The five numbers come one by one, as to `new`: they are tested by it
+// before they are the fields of a `Strided`.
 fn span_of(rows: u32, columns: u32, first: u32, row_step: u32, column_step: u32) -> u64
     requires { (rows ≤ 4096) × (columns ≤ 4096) }
     ensures { result ≡ strided_span first row_step column_step rows columns }

@@ -1,5 +1,5 @@
 // Lines put into and taken out of a sheet, on its buffers: the questions, the moves, the entry. Side, place and count
-// come one by one, as in the sheet's calls that hand them on; what the moves take is a `Block`.
+// come one by one, as in the sheet's calls that hand them on; the table makes a `Block` of them.
 #![tactic(auto)]
 
 ghost use Rattle.std.specs.Prelude.{◌+◌, ◌≤◌};

@@ -1,7 +1,6 @@
 -- Steps of the loops that move and fill a block of cells.
 use Rattle.std.proofs.Common.{◌≡◌, ℕ, ◌+◌, ◌-◌, ◌*◌, ◌<◌, ◌≤◌, ◌≢◌, min, List, length, get_or, set, ap, ◌∙◌, inl, inr, arith, length-set, get_or-set_other, get_or-set_same}
 use Rattle.std.proofs.Math.Nat.{min-eq_left, min-eq_right}
-use Rattle.std.proofs.lemmas.List.{get_or_read}
 use Rattle.std.proofs.lemmas.Bool.{cases_eq, cases_lt}
 use Rattle.moves.specs.Slides.{Slid, Filled, Copied}
 
@@ -16,23 +15,6 @@ put_same xs i p v d h e = at (set xs i v) d p i e ∙ get_or-set_same xs i v d h
 pub put_other : {X : Type 0} (xs : List X) (i p : ℕ) (v d : X) → p ≢ i → get_or (set xs i v) p d ≡ get_or xs p d
 put_other xs i p v d ne = get_or-set_other xs i p v d ne
 
-module _ {X : Type 0} (xs ys : List X) (from to : ℕ) where
-  -- one more cell at the end of the block, the target left of the source
-  pub slid_more : (i : ℕ) (v : X) → to ≤ from → from + i < length xs → Slid xs ys from to i → v ≡ get_or ys (from + i) v → Slid xs (set ys (to + i) v) from to (i + 1)
-  slid_more i v le fits s is =
-      let long : length ys ≡ length xs = s.long in
-      let room : to + i < length ys = omega arith in
-      let there : from + i < length ys = omega arith in
-      record {
-        long = length-set ys (to + i) v ∙ long;
-        moved = λ k d h. elim (cases_eq k i) [
-          | inl e ↦ put_same ys (to + i) (to + k) v d room (omega arith) ∙ get_or_read ys (from + i) v there is d ∙ s.above (from + i) d (omega arith) ∙ at xs d (from + i) (from + k) (omega arith)
-          | inr n ↦ put_other ys (to + i) (to + k) v d (λ e. n (omega arith)) ∙ s.moved k d (let m : k ≢ i = n in omega arith)
-        ];
-        below = λ k d h. put_other ys (to + i) k v d (λ e. omega arith) ∙ s.below k d h;
-        above = λ k d h. put_other ys (to + i) k v d (λ e. omega arith) ∙ s.above k d (omega arith);
-      }
-
 -- ys is xs with the cells i to len of the block at `from` copied to `to`: a move that goes from the block's end down
 pub record SlidFrom {X : Type 0} (xs ys : List X) (from to i len : ℕ) : Type 0 where
   pub long : length ys ≡ length xs
@@ -41,22 +23,6 @@ pub record SlidFrom {X : Type 0} (xs ys : List X) (from to i len : ℕ) : Type 0
   pub above : (k : ℕ) (d : X) → to + len ≤ k → get_or ys k d ≡ get_or xs k d
 
 module _ {X : Type 0} (xs ys : List X) (from to : ℕ) where
-  -- one more cell at the front of what is moved, the target right of the source: j is the new front
-  pub slid_from_more : (i j len : ℕ) (v : X) → i ≡ j + 1 → i ≤ len → from ≤ to → to + len ≤ length xs → SlidFrom xs ys from to i len → v ≡ get_or ys (from + j) v → SlidFrom xs (set ys (to + j) v) from to j len
-  slid_from_more i j len v e1 il le fits s is =
-      let long : length ys ≡ length xs = s.long in
-      let room : to + j < length ys = omega arith in
-      let there : from + j < length ys = omega arith in
-      record {
-        long = length-set ys (to + j) v ∙ long;
-        moved = λ k d h l. elim (cases_eq k j) [
-          | inl e ↦ put_same ys (to + j) (to + k) v d room (omega arith) ∙ get_or_read ys (from + j) v there is d ∙ s.below (from + j) d (omega arith) ∙ at xs d (from + j) (from + k) (omega arith)
-          | inr n ↦ put_other ys (to + j) (to + k) v d (λ e. n (omega arith)) ∙ s.moved k d (let m : k ≢ j = n in omega arith) l
-        ];
-        below = λ k d h. put_other ys (to + j) k v d (λ e. omega arith) ∙ s.below k d (omega arith);
-        above = λ k d h. put_other ys (to + j) k v d (λ e. omega arith) ∙ s.above k d (omega arith);
-      }
-
   pub slid_from_all : (i len : ℕ) → i ≤ 0 → SlidFrom xs ys from to i len → Slid xs ys from to len
   slid_from_all i len z s = record { long = s.long; moved = λ k d h. s.moved k d (omega arith) h; below = λ k d h. s.below k d (omega arith); above = s.above }
 
@@ -73,21 +39,6 @@ module _ {X : Type 0} (xs ys : List X) (from : ℕ) (v : X) where
         ];
         below = λ k d h. put_other ys (from + i) k v d (λ e. omega arith) ∙ s.below k d h;
         above = λ k d h. put_other ys (from + i) k v d (λ e. omega arith) ∙ s.above k d (omega arith);
-      }
-
-module _ {X : Type 0} (src xs ys : List X) (from to : ℕ) where
-  pub copied_more : (i : ℕ) (v : X) → from + i < length src → to + i < length xs → Copied src xs ys from to i → v ≡ get_or src (from + i) v → Copied src xs (set ys (to + i) v) from to (i + 1)
-  copied_more i v there fits s is =
-      let long : length ys ≡ length xs = s.long in
-      let room : to + i < length ys = omega arith in
-      record {
-        long = length-set ys (to + i) v ∙ long;
-        moved = λ k d h. elim (cases_eq k i) [
-          | inl e ↦ put_same ys (to + i) (to + k) v d room (omega arith) ∙ get_or_read src (from + i) v there is d ∙ at src d (from + i) (from + k) (omega arith)
-          | inr n ↦ put_other ys (to + i) (to + k) v d (λ e. n (omega arith)) ∙ s.moved k d (let m : k ≢ i = n in omega arith)
-        ];
-        below = λ k d h. put_other ys (to + i) k v d (λ e. omega arith) ∙ s.below k d h;
-        above = λ k d h. put_other ys (to + i) k v d (λ e. omega arith) ∙ s.above k d (omega arith);
       }
 
 module _ {X : Type 0} (xs ys zs : List X) (from to : ℕ) where

@@ -11,9 +11,9 @@ fn is_small<T>() -> bool
 }
 
 // Moves at most 4096 cells either way, by way of a local array, so the two ranges may overlap.
-// The compiler makes one memmove of this and no array, which `copy_within` is not: it took 1.7 times as long for a
-// block of 60,000 weights. `len` is tested first: else the copies in and out each have a test of their own, and the
-// compiler does not join them.
+// The compiler makes one memmove of this, and no array. Of `copy_within` it makes none: for 60,000 weights that took
+// 1.7 times as long. `len` is tested first: else the copies in and out each have a test of their own, and the compiler
+// does not join them.
 fn slide_block<T: Copy>(cells: &mut [T], from: usize, to: usize, len: usize)
     requires { (from + len ≤ length cells.old) × (to + len ≤ length cells.old) × (len ≤ 4096) }
     ensures { Slid cells.old cells.new from to len }

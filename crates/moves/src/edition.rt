@@ -34,7 +34,7 @@ pub fn compress_rows<T: Copy>(cells: &mut [T], b: Block)
     );
 }
 
-// Moves columns of `rows` cells, the first of them at b.first, to where each lies after b.count more. To the right,
+// Moves columns of b.rows cells, the first of them at b.first, to where each lies after b.count more. To the right,
 // columns from the last on, so a cell is read before it is written over.
 fn open_columns<T: Copy>(cells: &mut [T], b: Block)
     requires { b.first + b.columns * (b.rows + b.count) ≤ length cells.old }
@@ -46,7 +46,8 @@ fn open_columns<T: Copy>(cells: &mut [T], b: Block)
     }
 }
 
-// Makes room for the rows: the table then has so many rows more. What the new cells hold is not said.
+// Makes room for the rows: the table then has so many rows more. Of the new cells only those of the first column are
+// spoken of: they hold what stood there.
 // To the right, columns from the last on, so a cell is read before it is written over.
 pub fn extend_rows<T: Copy>(cells: &mut [T], b: Block)
     requires { (b.first ≤ b.rows) × ((b.rows + b.count) * b.columns ≤ length cells.old) }
@@ -153,7 +154,7 @@ impl<'a, T: Copy> Table<'a, T> {
         self.set_count(side, left);
     }
 
-    // Makes room for n lines at i; the shape is left to the caller. What then stands in the room is not said.
+    // Makes room for n lines at i; the shape is left to the caller.
     pub fn extend_lines(&mut self, side: Side, i: u32, n: u32)
         requires there { i ≤ lines_in side self.old.rows self.old.columns }
         requires fits { cells_with side (lines_in side self.old.rows self.old.columns + n) self.old.rows self.old.columns ≤ length self.old.cells.now }

@@ -13,11 +13,13 @@ use Rattle.model.specs.Reached.{Reachable}
 use Rattle.model.proofs.Grids.{Single, Singles, length_grid, grid_at, all_counting}
 use Rattle.model.proofs.Joins.{table_cells, same_cell}
 use Rattle.model.proofs.Reaching.{opened_reached}
+use Rattle.journal.specs.declared.parts.Run.{Run}
+use Rattle.journal.specs.declared.parts.Entry.{Entry}
 use Rattle.journal.specs.declared.parts.Parts.{Parts}
 use Rattle.journal.specs.View.{entry_of, room_of, run_of, view}
 use Rattle.journal.specs.Entering.{Holds}
 use Rattle.journal.proofs.Answering.{same_room, same_sheet}
-use Rattle.sheet.specs.Opening.{no_table, opening_rules, room, table_in}
+use Rattle.sheet.specs.Opening.{no_table, opening_rules, room, room_in, table_in}
 
 module _ {A : Type 0} (grid : Grid) (law : Lawful grid) (xs : List A) (reached : grid.span ≤ length xs) where
   read : ℕ × ℕ → List A
@@ -77,18 +79,18 @@ refilled_reachable grid law source p q (Ok u) reachable rules w = filled_reachab
 refilled_reachable {A} grid law source p q (Err e) reachable rules same = subst (λ (z : Parts A). Reachable (view z)) (sym same) reachable
 
 -- parts that hold nothing yet
-module _ {A : Type 0} (p : Parts A) (cells : List A) (m n k : ℕ) (h : Holds p cells m n k) where
-  pub holds_room : room_of p ≡ room (length cells) m n k
-  holds_room = same_room _ _ _ _ _ _ _ _ (ap length h.cells) h.for_entries h.for_runs h.for_saved
+module _ {A : Type 0} (p : Parts A) (cells : List A) (es : List Entry) (rs : List Run) (ks : List A) (h : Holds p cells es rs ks) where
+  pub holds_room : room_of p ≡ room_in cells es rs ks
+  holds_room = same_room _ _ _ _ _ _ _ _ (ap length h.cells) (ap length h.entries_stand) (ap length h.runs_stand) (ap length h.saved_stand)
 
-  holds_opened : cells ≡ [] → view p ≡ opened no_table (room (length cells) m n k)
+  holds_opened : cells ≡ [] → view p ≡ opened no_table (room_in cells es rs ks)
   holds_opened e =
-      same_sheet (view p) (opened no_table (room (length cells) m n k)) h.rows h.columns (ap₂ take (ap₂ ◌*◌ h.rows h.columns) (h.cells ∙ e))
+      same_sheet (view p) (opened no_table (room_in cells es rs ks)) h.rows h.columns (ap₂ take (ap₂ ◌*◌ h.rows h.columns) (h.cells ∙ e))
       (ap (λ zs. map entry_of (reverse zs)) h.entries) (ap (map run_of) h.runs) h.saved holds_room
 
-pub empty_opened : {A : Type 0} (p : Parts A) → Holds p [] 0 0 0 → view p ≡ opened no_table (room 0 0 0 0)
-empty_opened p h = holds_opened p [] 0 0 0 h refl
+pub empty_opened : {A : Type 0} (p : Parts A) → Holds p [] [] [] [] → view p ≡ opened no_table (room 0 0 0 0)
+empty_opened p h = holds_opened p [] [] [] [] h refl
 
-pub empty_reachable : {A : Type 0} (p : Parts A) → Holds p [] 0 0 0 → Reachable (view p)
+pub empty_reachable : {A : Type 0} (p : Parts A) → Holds p [] [] [] [] → Reachable (view p)
 empty_reachable {A} p h =
     subst Reachable (sym (empty_opened p h)) (opened_reached {A = A} no_table (room 0 0 0 0) (record { right = refl; rows = omega arith; columns = omega arith; cells = omega arith }))

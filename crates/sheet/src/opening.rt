@@ -39,7 +39,7 @@ pub(crate) fn ask_opening<L: Layout>(layout: &L, source: usize, sizes: Sizes) ->
     Ok(())
 }
 
-// Makes the layout's table of it.
+// Copies the layout's table to the cells, and takes its shape.
 fn copy_table<L: Layout, T: Copy>(table: &mut Table<'_, T>, layout: &L, source: &[T])
     requires { ((L.grid layout.now).span ≤ length source.now) × ((L.grid layout.now).rows * (L.grid layout.now).columns ≤ length table.old.cells.now) }
     ensures cells { Cloned (L.grid layout.now) source.now table.old.cells.now table.new.cells.now (L.grid layout.now).columns }

@@ -15,8 +15,9 @@ use layout::side::Side;
 use layout::storage::Layout;
 
 impl<'a, T: Copy> Sheet<'a, T> {
-    // Whether `open` would open the layout's table over these buffers: questions 1, 3, 4 and 10. They come one by one,
-    // here and at `new`: one is lent them and the other is given them, so it would take two structs.
+    // Whether `open` would open the layout's table over these buffers: questions 1, 3, 4 and 10. The
+    // buffers come one by one, here and at `new`: one is lent them and the other is given them, so it would take two
+    // structs.
     pub fn check<L: Layout>(
         layout: &L,
         source: &[T],
