@@ -1,5 +1,5 @@
 -- A call from its questions and its work: the same for every change of either side.
-use Rattle.std.proofs.Common.{◌≡◌, ℕ, ◌*◌, false, List, [], ◌∷◌, ◌++◌, map, reverse, length, take, drop, Ok, Err, sym, refl, ap, ◌∙◌, ap₂, append-nil}
+use Rattle.std.proofs.Common.{◌≡◌, ℕ, ◌*◌, List, [], ◌∷◌, ◌++◌, map, reverse, length, take, Ok, Err, sym, refl, ap, ◌∙◌, ap₂, append-nil}
 use Rattle.std.proofs.lemmas.List.{length-take-le}
 use Rattle.layout.specs.declared.refusal.Refusal.{Refusal}
 use Rattle.layout.specs.Refusals.{number_of}
@@ -15,7 +15,7 @@ use Rattle.journal.specs.View.{view, table_of, entries_of, runs_of, saved_of, en
 use Rattle.journal.specs.Asking.{rooms}
 use Rattle.journal.specs.Entering.{entry_for}
 use Rattle.journal.specs.Answering.{Held, Answers, Performed}
-use Rattle.journal.proofs.Asking.{fails, verdict_is, refused_answer, refused_state, done_answer, done_state}
+use Rattle.journal.proofs.Asking.{verdict_is, refused_answer, refused_state, done_answer, done_state}
 use Rattle.journal.proofs.Entries.{entry_more}
 
 pub same_sheet : {A : Type 0} (s s' : Sheet A) → s.table.rows ≡ s'.table.rows → s.table.columns ≡ s'.table.columns → s.table.cells ≡ s'.table.cells
@@ -78,10 +78,6 @@ refuses p ch e h f = record {
   same = λ k z. refl;
   held = h;
 }
-
--- where a line that it names is not there
-pub unnamed : {A : Type 0} (p : Parts A) (ch : Change A) → Held p → named_in (table_of p) ch ≡ false → Answers p p (change ch) (Err Refusal.NoSuchLine)
-unnamed p ch h e = refuses p ch Refusal.NoSuchLine h (fails 2 (named_in (table_of p) ch) (drop 1 (tests (view p) ch)) e)
 
 -- by one of the questions 3 to 7
 pub full : {A : Type 0} (p : Parts A) (ch : Change A) (m n : ℕ) (rs : List (ℕ × ℕ)) (l : ℕ) → Counts (table_of p) ch m n rs l

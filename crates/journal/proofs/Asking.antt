@@ -1,14 +1,13 @@
 -- The questions, and what an accepted or a refused change answers.
-use Rattle.std.proofs.Common.{◌≡◌, ℕ, ◌+◌, ◌*◌, ◌<◌, ◌≤◌, Bool, true, false, cond, ◌&&◌, ltb, leb, List, [], ◌∷◌, reverse, length, drop, sym, refl, ap, ◌∙◌, arith}
+use Rattle.std.proofs.Common.{◌≡◌, ℕ, ◌+◌, ◌*◌, Bool, true, false, cond, ◌&&◌, ltb, leb, List, [], ◌∷◌, reverse, length, sym, ap, ◌∙◌}
 use Rattle.std.proofs.lemmas.List.{length-reverse, length-map}
-use Rattle.std.proofs.lemmas.Bool.{and_from, le-leb, lt-leb, lt-ltb, le-ltb}
 use Rattle.model.specs.Sheet.{Change, rows_of, columns_of}
 use Rattle.model.specs.Journal as model
 use Rattle.model.specs.Journal.{Sheet, Answer, done, refused, first_no, verdict, named_in, has_column, lost_of, unless, after, step, change}
 use Rattle.model.proofs.Counting.{Counts}
 use Rattle.journal.specs.declared.parts.Parts.{Parts}
-use Rattle.moves.specs.Stores.{items, room}
-use Rattle.journal.specs.View.{view, entries_of, runs_of, saved_of, entry_of, run_of}
+use Rattle.moves.specs.Stores.{items}
+use Rattle.journal.specs.View.{view, entries_of, runs_of, entry_of, run_of}
 use Rattle.journal.specs.Asking.{rooms}
 
 pub fails : (n : ℕ) (b : Bool) (qs : List (ℕ × Bool)) → b ≡ false → refused n ≡ first_no ((n, b) ∷ qs)
@@ -23,40 +22,6 @@ module _ {A : Type 0} (p : Parts A) where
 
   pub runs_long : length (runs_of p) ≡ length (items p.runs)
   runs_long = length-map (items p.runs) run_of
-
-  module _ (m n k l : ℕ) (mr : m ≤ 4096) (nr : n ≤ 4096) (cells : m * n ≤ length p.table.cells.now) where
-    from_five : (a : Answer) → a ≡ first_no (drop 2 (rooms (view p) m n k l)) → a ≡ first_no (rooms (view p) m n k l)
-    from_five a h =
-        passes 3 (leb m 4096 && leb n 4096) (drop 1 (rooms (view p) m n k l)) a (and_from (leb m 4096) (leb n 4096) (le-leb m 4096 mr) (le-leb n 4096 nr))
-        (passes 4 (leb (m * n) (length p.table.cells.now)) (drop 2 (rooms (view p) m n k l)) a (le-leb (m * n) (length p.table.cells.now) cells) h)
-
-    pub no_entry : room p.entries ≤ length (items p.entries) → refused 5 ≡ first_no (rooms (view p) m n k l)
-    no_entry h =
-        let e = entries_long in
-        from_five (refused 5) (fails 5 (ltb (length (entries_of p)) (room p.entries)) (drop 3 (rooms (view p) m n k l)) (le-ltb (length (entries_of p)) (room p.entries) (omega arith)))
-
-    module _ (entries : length (items p.entries) < room p.entries) where
-      from_six : (a : Answer) → a ≡ first_no (drop 3 (rooms (view p) m n k l)) → a ≡ first_no (rooms (view p) m n k l)
-      from_six a h =
-          let e = entries_long in
-          from_five a (passes 5 (ltb (length (entries_of p)) (room p.entries)) (drop 3 (rooms (view p) m n k l)) a (lt-ltb (length (entries_of p)) (room p.entries) (omega arith)) h)
-
-      pub no_run : room p.runs < length (items p.runs) + k → refused 6 ≡ first_no (rooms (view p) m n k l)
-      no_run h =
-          let e = runs_long in
-          from_six (refused 6) (fails 6 (leb (length (runs_of p) + k) (room p.runs)) (drop 4 (rooms (view p) m n k l)) (lt-leb (length (runs_of p) + k) (room p.runs) (omega arith)))
-
-      module _ (runs : length (items p.runs) + k ≤ room p.runs) where
-        from_seven : (a : Answer) → a ≡ first_no (drop 4 (rooms (view p) m n k l)) → a ≡ first_no (rooms (view p) m n k l)
-        from_seven a h =
-            let e = runs_long in
-            from_six a (passes 6 (leb (length (runs_of p) + k) (room p.runs)) (drop 4 (rooms (view p) m n k l)) a (le-leb (length (runs_of p) + k) (room p.runs) (omega arith)) h)
-
-        pub no_saved : room p.saved < length (items p.saved) + l → refused 7 ≡ first_no (rooms (view p) m n k l)
-        no_saved h = from_seven (refused 7) (fails 7 (leb (length (saved_of p) + l) (room p.saved)) [] (lt-leb (length (saved_of p) + l) (room p.saved) h))
-
-        pub all_pass : length (items p.saved) + l ≤ room p.saved → done ≡ first_no (rooms (view p) m n k l)
-        all_pass h = from_seven done (passes 7 (leb (length (saved_of p) + l) (room p.saved)) [] done (le-leb (length (saved_of p) + l) (room p.saved) h) refl)
 
 -- the questions asked of numbers that come to the same
 pub asked_as :

@@ -117,9 +117,6 @@ module _ {A : Type 0} (p : Parts A) (t : Table A) (e : Entry) (long : length t.c
   abbrev pub moved : Parts A
   moved = record { table = t; entries = p.entries; runs = p.runs; saved = p.saved }
 
-  pub moved_fits : FormerFits p e → FormerFits moved e
-  moved_fits f = record { rows = f.rows; columns = f.columns; cells = omega (arith, f.cells) }
-
   pub moved_back : (q : Parts A) → TakesBack moved q e → TakesBack p q e
   moved_back q w = record {
     rows = w.rows;

@@ -1,5 +1,5 @@
 -- Steps of the loops that take rows out of a table and make room for rows.
-use Rattle.std.proofs.Common.{◌≡◌, ℕ, ◌+◌, ◌-◌, ◌*◌, ◌<◌, ◌≤◌, List, length, get_or, sym, refl, ◌∙◌, inl, inr, mul_comm, zero-mul, arith}
+use Rattle.std.proofs.Common.{◌≡◌, ℕ, ◌+◌, ◌-◌, ◌*◌, ◌<◌, ◌≤◌, List, length, get_or, sym, ◌∙◌, inl, inr, mul_comm, zero-mul, arith}
 use Rattle.std.proofs.lemmas.Bool.{cases_lt}
 use Rattle.moves.specs.Slides.{Slid}
 use Rattle.moves.specs.Blocks.{rows_block}
@@ -15,18 +15,6 @@ pub record Compressing {X : Type 0} (xs ys : List X) (rows left i n w : ℕ) : T
   pub rest : (k : ℕ) (d : X) → w ≤ k → get_or ys k d ≡ get_or xs k d
 
 module _ {X : Type 0} (xs ys zs : List X) (rows left i n : ℕ) (whole : left + n ≡ rows) (within : i ≤ left) where
-  -- at the start the first i cells are in their place
-  pub compressing_none : Compressing xs xs rows left i n i
-  compressing_none = record {
-    long = refl;
-    upper = λ r c d h l. elim (cases_lt 0 c) [
-      | inl p ↦ absurd (omega (arith, columns_le 1 c left p, next_column 0 left))
-      | inr z ↦ at xs d (r + c * left) (r + c * rows) (omega (arith, columns_le c 0 left z, columns_le c 0 rows z))
-    ];
-    lower = λ r c d h l m. absurd (omega arith);
-    rest = λ k d h. refl;
-  }
-
   -- a move of at most `left` cells, from below the gap in column c to the place that is reached
   pub compressing_more : (c from w m : ℕ) → w ≡ i + c * left → from ≡ i + n + c * rows → m ≤ left → Compressing xs ys rows left i n w → Slid ys zs from w m → Compressing xs zs rows left i n (w + m)
   compressing_more c from w m we fe ml s t =
@@ -67,10 +55,6 @@ module _ (rows columns i n : ℕ) (gap : i + n ≤ rows) where
   pub compress_back : (c : ℕ) → c * (rows - n) ≤ c * rows
   compress_back c = columns_wider c (rows - n) rows (omega arith)
 
-  -- the last move ends where the table ends
-  pub compress_end : (c : ℕ) → c + 1 ≡ columns → c * rows + rows ≡ rows * columns
-  compress_end c h = omega (arith, column_after c columns rows (omega arith), mul_comm rows columns)
-
   module _ {X : Type 0} (xs ys : List X) where
     pub compressed_all : (c w : ℕ) → c + 1 ≡ columns → w ≡ c * (rows - n) + (rows - n) → Compressing xs ys rows (rows - n) i n w → Compressed xs ys (rows_block rows columns i n)
     compressed_all c w ce we s =
@@ -110,10 +94,6 @@ module _ {X : Type 0} (xs ys zs : List X) (rows grown columns i n : ℕ) (whole 
       }
 
 module _ (rows columns last i n : ℕ) (whole : columns ≡ last + 1) where
-  -- the last column's lower part ends where the table does, and the columns before it begin in order
-  pub extend_room : (columns * (rows + n) ≡ last * (rows + n) + (rows + n)) × (columns * rows ≡ last * rows + rows) × (last * rows ≤ last * (rows + n))
-  extend_room = (column_after last columns (rows + n) whole, column_after last columns rows whole, columns_wider last rows (rows + n) (omega arith))
-
   module _ {X : Type 0} (xs ys zs : List X) (within : i ≤ rows) where
     -- a move of the last column's lower part, and of all that lies between two gaps
     pub extended_by : (from to m : ℕ) → from ≡ last * rows + i → to ≡ last * (rows + n) + i + n → m ≡ rows - i → Slid xs ys from to m → Opened ys zs (rows_block rows last i n) → Extended xs zs (rows_block rows columns i n)

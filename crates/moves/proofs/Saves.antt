@@ -15,10 +15,6 @@ module _ (rows columns i n : ℕ) (gap : i + n ≤ rows) where
   pub gap_room : (c : ℕ) → c < columns → i + c * rows + n ≤ rows * columns
   gap_room c h = omega (arith, columns_lt c columns rows h, mul_comm rows columns)
 
-  -- and what is saved of a column lies in its place
-  pub saved_room : (c : ℕ) → c < columns → c * n + n ≤ n * columns
-  saved_room c h = omega (arith, columns_lt c columns n h, mul_comm n columns)
-
 module _ {X : Type 0} (src xs ys zs : List X) (rows i n : ℕ) where
   -- the rows of one column more
   pub saving_more : (c from m : ℕ) → from ≡ i + c * rows → m ≡ n → from + n ≤ length src → Saved src xs ys (rows_block rows c i n)

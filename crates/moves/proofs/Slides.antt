@@ -1,19 +1,12 @@
 -- Steps of the loops that move and fill a block of cells.
-use Rattle.std.proofs.Common.{◌≡◌, ℕ, ◌+◌, ◌-◌, ◌*◌, ◌<◌, ◌≤◌, ◌≢◌, min, List, length, get_or, set, ap, ◌∙◌, inl, inr, arith, length-set, get_or-set_other, get_or-set_same}
+use Rattle.std.proofs.Common.{◌≡◌, ℕ, ◌+◌, ◌-◌, ◌*◌, ◌<◌, ◌≤◌, min, List, length, get_or, ap, ◌∙◌, inl, inr, arith}
 use Rattle.std.proofs.Math.Nat.{min-eq_left, min-eq_right}
-use Rattle.std.proofs.lemmas.Bool.{cases_eq, cases_lt}
-use Rattle.moves.specs.Slides.{Slid, Filled, Copied}
+use Rattle.std.proofs.lemmas.Bool.{cases_lt}
+use Rattle.moves.specs.Slides.{Slid, Copied}
 
 -- an element read by its place written in two ways
 pub at : {X : Type 0} (xs : List X) (d : X) (p q : ℕ) → p ≡ q → get_or xs p d ≡ get_or xs q d
 at xs d p q e = ap (λ (n : ℕ). get_or xs n d) e
-
--- an element of a list after a write, at the place written and at another
-pub put_same : {X : Type 0} (xs : List X) (i p : ℕ) (v d : X) → i < length xs → p ≡ i → get_or (set xs i v) p d ≡ v
-put_same xs i p v d h e = at (set xs i v) d p i e ∙ get_or-set_same xs i v d h
-
-pub put_other : {X : Type 0} (xs : List X) (i p : ℕ) (v d : X) → p ≢ i → get_or (set xs i v) p d ≡ get_or xs p d
-put_other xs i p v d ne = get_or-set_other xs i p v d ne
 
 -- ys is xs with the cells i to len of the block at `from` copied to `to`: a move that goes from the block's end down
 pub record SlidFrom {X : Type 0} (xs ys : List X) (from to i len : ℕ) : Type 0 where
@@ -21,25 +14,6 @@ pub record SlidFrom {X : Type 0} (xs ys : List X) (from to i len : ℕ) : Type 0
   pub moved : (k : ℕ) (d : X) → i ≤ k → k < len → get_or ys (to + k) d ≡ get_or xs (from + k) d
   pub below : (k : ℕ) (d : X) → k < to + i → get_or ys k d ≡ get_or xs k d
   pub above : (k : ℕ) (d : X) → to + len ≤ k → get_or ys k d ≡ get_or xs k d
-
-module _ {X : Type 0} (xs ys : List X) (from to : ℕ) where
-  pub slid_from_all : (i len : ℕ) → i ≤ 0 → SlidFrom xs ys from to i len → Slid xs ys from to len
-  slid_from_all i len z s = record { long = s.long; moved = λ k d h. s.moved k d (omega arith) h; below = λ k d h. s.below k d (omega arith); above = s.above }
-
-module _ {X : Type 0} (xs ys : List X) (from : ℕ) (v : X) where
-  pub filled_more : (i : ℕ) → from + i < length xs → Filled xs ys from i v → Filled xs (set ys (from + i) v) from (i + 1) v
-  filled_more i fits s =
-      let long : length ys ≡ length xs = s.long in
-      let room : from + i < length ys = omega arith in
-      record {
-        long = length-set ys (from + i) v ∙ long;
-        filled = λ k d h. elim (cases_eq k i) [
-          | inl e ↦ put_same ys (from + i) (from + k) v d room (omega arith)
-          | inr n ↦ put_other ys (from + i) (from + k) v d (λ e. n (omega arith)) ∙ s.filled k d (let m : k ≢ i = n in omega arith)
-        ];
-        below = λ k d h. put_other ys (from + i) k v d (λ e. omega arith) ∙ s.below k d h;
-        above = λ k d h. put_other ys (from + i) k v d (λ e. omega arith) ∙ s.above k d (omega arith);
-      }
 
 module _ {X : Type 0} (xs ys zs : List X) (from to : ℕ) where
   -- a move of i cells and one of m after them, the target left of the source

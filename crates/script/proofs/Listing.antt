@@ -1,13 +1,12 @@
 -- What reading the words of a line keeps.
-use Rattle.std.proofs.Common.{◌≡◌, ℕ, suc, ◌+◌, ◌-◌, ◌<◌, ◌≤◌, true, false, cond, eqb, List, [], ◌∷◌, ◌++◌, length, get_or, take, drop, set, replicate, Some, None, Err, Option, Result, unwrap_or, sym, refl, ap, ◌∙◌, append_assoc, arith}
+use Rattle.std.proofs.Common.{◌≡◌, ℕ, suc, ◌+◌, ◌-◌, ◌<◌, ◌≤◌, true, false, cond, eqb, List, [], ◌∷◌, ◌++◌, length, take, set, replicate, Some, None, Err, Option, Result, unwrap_or, sym, refl, ap, ◌∙◌, append_assoc, arith}
 use Rattle.std.specs.List.{onto_first}
-use Rattle.std.proofs.lemmas.List.{length-take-le, length-set, take_more_set, set_at, take_rest}
-use Rattle.std.proofs.lemmas.Bool.{eq-eqb}
+use Rattle.std.proofs.lemmas.List.{length-take-le, length-set, take_more_set, set_at}
 use Rattle.layout.specs.declared.refusal.Refusal.TheVariants.{BadNumber}
 use Rattle.script.specs.declared.command.Numbers.{Numbers}
 use Rattle.script.specs.declared.command.Fault.{Fault}
 use Rattle.script.specs.Numerals.{numeral}
-use Rattle.script.specs.Tokens.{Part, command, number, remark, part_value, first_part, after_first, next_part}
+use Rattle.script.specs.Tokens.{Part, number, part_value, next_part}
 use Rattle.script.specs.Words.{front, behind, parts, parts_of, further}
 use Rattle.script.specs.Commands.{read_on, fault}
 
@@ -79,9 +78,3 @@ next_word None q p e = let z : ◌≡◌ {A = ℕ} 0 1 = cc in absurd (omega ari
 next_word (Some bs) q p e =
     let same : ◌≡◌ {A = Part × Option (List ℕ)} (p, q) (number (front 32 bs), behind 32 bs) = ap (λ o. unwrap_or o (p, q)) e in
     record { word = front 32 bs; first = parts_cut bs ∙ ap (λ x. front 32 bs ∷ further x.1) (sym same); value = ap (λ x. part_value x.0) same }
-
-pub remark_first : (bs : List ℕ) → 1 ≤ length bs → get_or bs 0 0 ≡ 35 → (remark (take (length bs - 1) (drop 1 bs)) ≡ first_part bs) × (◌≡◌ {A = Option (List ℕ)} None (after_first bs))
-remark_first [] h e = absurd (omega arith)
-remark_first (b ∷ bs) h e =
-    let hash = eq-eqb b 35 e in
-    (ap remark (take_rest (b ∷ bs) 1) ∙ ap (λ t. cond t (remark bs) (command (front 32 (b ∷ bs)))) (sym hash), ap (λ t. cond t None (behind 32 (b ∷ bs))) (sym hash))

@@ -1,5 +1,5 @@
 -- A sheet of one value, opened.
-use Rattle.std.proofs.Common.{◌≡◌, ℕ, ◌*◌, ◌≤◌, Bool, true, false, cond, leb, List, [], ◌∷◌, drop, replicate, Ok, sym, refl, ap, ◌∙◌, subst, ap₂, arith}
+use Rattle.std.proofs.Common.{◌≡◌, ℕ, ◌*◌, ◌≤◌, true, leb, [], drop, replicate, Ok, sym, refl, ap, ◌∙◌, subst, ap₂, arith}
 use lib.ListN.{length-replicate}
 use Rattle.std.proofs.lemmas.List.{take-replicate}
 use Rattle.std.proofs.lemmas.Bool.{and_from, le-leb}
@@ -7,14 +7,12 @@ use Rattle.layout.specs.Checks.{Passes, dense_rules}
 use Rattle.layout.specs.Dense.{dense_lawful}
 use Rattle.layout.specs.Lawful.{dense}
 use Rattle.model.specs.Journal.{Room, done, first_no, opened}
+use Rattle.journal.proofs.Asking.{passes}
 use Rattle.sheet.specs.Opening.{opening_rules, table_in}
 use Rattle.sheet.proofs.Openings.{cloned_cells}
 use Rattle.session.specs.declared.state.Session.{Session}
 use Rattle.session.specs.Transcript.{new_tests, plain}
 use Rattle.session.specs.Meaning.{NewAnswers, state_of}
-
-passes : (n : ℕ) (b : Bool) (qs : List (ℕ × Bool)) → b ≡ true → done ≡ first_no qs → done ≡ first_no ((n, b) ∷ qs)
-passes n b qs e h = h ∙ ap (λ v. cond v (first_no qs) (first_no ((n, false) ∷ qs))) (sym e)
 
 module _ (rows columns v : ℕ) (few : Passes (dense_rules rows columns)) where
   pub plain_table : rows * columns ≤ 4096 → table_in (dense rows columns) (replicate 4096 v) ≡ plain rows columns v
@@ -31,12 +29,12 @@ module _ (rows columns v : ℕ) (few : Passes (dense_rules rows columns)) where
     pub new_passes : done ≡ first_no (new_tests r rows columns)
     new_passes =
         let s = asked.0 in
-        passes 3 _ (drop 1 (new_tests r rows columns)) (and_from (leb rows 4096) (leb columns 4096) (le-leb rows 4096 few.0.0) (le-leb columns 4096 few.0.1))
-        (passes 4 _ (drop 2 (new_tests r rows columns)) (le-leb (rows * columns) 65536 few.1.0)
-        (passes 1 _ (drop 3 (new_tests r rows columns))
+        passes 3 _ (drop 1 (new_tests r rows columns)) done (and_from (leb rows 4096) (leb columns 4096) (le-leb rows 4096 few.0.0) (le-leb columns 4096 few.0.1))
+        (passes 4 _ (drop 2 (new_tests r rows columns)) done (le-leb (rows * columns) 65536 few.1.0)
+        (passes 1 _ (drop 3 (new_tests r rows columns)) done
         (and_from (leb r.for_cells 65536) _ (le-leb r.for_cells 65536 s.0) (and_from (leb r.for_entries 4096) _ (le-leb r.for_entries 4096 s.1) (and_from (leb r.for_runs 32768) _ (le-leb r.for_runs 32768 s.2) (le-leb r.for_saved 65536 s.3))))
-        (passes 4 _ (drop 4 (new_tests r rows columns)) (le-leb (rows * columns) r.for_cells asked.1.1.0)
-        (passes 10 _ [] (le-leb (rows * columns) 4096 asked.1.1.1.0) refl))))
+        (passes 4 _ (drop 4 (new_tests r rows columns)) done (le-leb (rows * columns) r.for_cells asked.1.1.0)
+        (passes 10 _ [] done (le-leb (rows * columns) 4096 asked.1.1.1.0) refl))))
 
 -- the sheet that n opens
 pub new_opened :
