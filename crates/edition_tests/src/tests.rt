@@ -9,7 +9,7 @@ use layout::matrix_view::Strided;
 use layout::refusal::Refusal;
 use layout::storage::Layout;
 use layout::vec_storage::Dense;
-use marked::{Marked, TABLE, note, same_marks};
+use marked::{Marked, TABLE, note, notes, same_marks};
 use std::process::Abort;
 
 #[derive(Clone, Copy)]
@@ -40,6 +40,7 @@ fn perform<L: Layout, T: Copy + Marked>(
     cells: &mut [T],
     target: &mut [T],
 ) -> Result<(), Refusal> {
+    // A match: a closure cannot be for every layout and both kinds of cell.
     match call {
         Call::SwapRows(i, j) => swap_rows(layout, cells, i, j),
         Call::SwapColumns(i, j) => swap_columns(layout, cells, i, j),
@@ -63,6 +64,7 @@ fn leaves<T: Copy + Marked>(
     target: &mut [T],
 ) {
     let (table, written) = after;
+    // And here, since a boxed layout is no `Layout`.
     let got = match seen {
         Seen::Dense(rows, columns) => perform(&Dense::make(rows, columns), call, cells, target),
         Seen::Strided => perform(&Strided::make(2, 2, 0, 2, 3), call, cells, target),
@@ -89,7 +91,7 @@ fn both_kinds(
 ) {
     let mut weights = TABLE;
     leaves(rt, seen, call, answer, after, &mut weights, &mut [77; 8]);
-    let mut notes = [note(1), note(2), note(3), note(4), note(5), note(6)];
+    let mut notes = notes();
     leaves(
         rt,
         seen,

@@ -4,7 +4,7 @@ use layout::refusal::Refusal;
 use layout::side::Side;
 use layout::storage::Layout;
 use layout::vec_storage::Dense;
-use marked::{Marked, note, same_marks};
+use marked::{Marked, TABLE, note, notes, same_marks};
 use sheet::sheet::Sheet;
 use std::process::Abort;
 use std::test::Fail;
@@ -66,7 +66,7 @@ fn holds<T: Copy + Marked>(
 
 #[test]
 fn worked_gaps(rt: HostRuntime) -> Result<(), Fail> {
-    let table: &[u32] = &[1, 2, 3, 4, 5, 6];
+    let table: &[u32] = &TABLE;
     let examples = [
         Example {
             side: Side::Rows,
@@ -141,9 +141,9 @@ fn worked_gaps(rt: HostRuntime) -> Result<(), Fail> {
             cells: table,
         },
     ];
-    let notes = [note(1), note(2), note(3), note(4), note(5), note(6)];
+    let notes = notes();
     for e in &examples {
-        holds(&rt, e, &[1, 2, 3, 4, 5, 6], &[7, 8, 9], &mut [77; 10])?;
+        holds(&rt, e, &TABLE, &[7, 8, 9], &mut [77; 10])?;
         holds(
             &rt,
             e,
@@ -163,7 +163,7 @@ fn journal_full(rt: HostRuntime) {
     let mut runs = [NO_RUN; 1];
     let sheet = Sheet::open(
         &Dense::make(3, 2),
-        &[1, 2, 3, 4, 5, 6],
+        &TABLE,
         &mut cells,
         &mut entries,
         &mut runs,

@@ -126,8 +126,8 @@ fn picked_rows(rt: HostRuntime) -> Result<(), Fail> {
 #[test]
 fn all_rows_picked(rt: HostRuntime) -> Result<(), Fail> {
     let mut list = [0; 4096];
-    for k in 0..4096u32 {
-        list[k as usize] = 4095 - k;
+    for (place, row) in list.iter_mut().zip((0..4096).rev()) {
+        *place = row;
     }
     picked(&rt, &list, 4096, 16, made(4096, 16, 65536))?;
     places(
@@ -227,6 +227,7 @@ fn hand_out<T: PartialEq + Debug>(rt: &impl Abort, cells: &[T; 6]) {
     assert_eq!(rt; column(&Dense::make(0, 2), &b[0..0], 1), Ok(&b[0..0]));
 }
 
+// Notes of one weight and quality: the inputs of these examples since they were written.
 fn note(n: u32) -> WeighingNote {
     WeighingNote {
         ticket: n,

@@ -1,7 +1,7 @@
 // Cells for the tests: a number is written into a cell of either kind, and read out of it again.
 #![tactic(auto)]
 
-ghost use Rattle.std.specs.Prelude.{◌≡◌, ℕ, map};
+ghost use Rattle.std.specs.Prelude.{◌≡◌, ℕ, [], ◌∷◌, map};
 ghost use Rattle.marked.specs.Notes.{note_mark, note_of};
 
 use sheet::cell::WeighingNote;
@@ -68,6 +68,13 @@ pub fn note(n: u32) -> WeighingNote
     ensures { result ≡ note_of n }
 {
     WeighingNote::of(n)
+}
+
+// The same table, of notes.
+pub fn notes() -> [WeighingNote; 6]
+    ensures { result ≡ map note_of (1 ∷ 2 ∷ 3 ∷ 4 ∷ 5 ∷ 6 ∷ []) }
+{
+    [note(1), note(2), note(3), note(4), note(5), note(6)]
 }
 
 // Stops unless the cells have these marks.

@@ -3,7 +3,7 @@ use journal::parts::{Entry, NO_ENTRY, NO_RUN, Run};
 use layout::refusal::Refusal;
 use layout::storage::Layout;
 use layout::vec_storage::Dense;
-use marked::{Marked, TABLE, note, same_marks};
+use marked::{Marked, TABLE, note, notes, same_marks};
 use sheet::sheet::Sheet;
 use std::process::Abort;
 
@@ -47,6 +47,7 @@ pub(crate) fn play<T: Copy + Marked>(
     sheet: &mut Sheet<'_, T>,
     call: Call<'_>,
 ) -> Result<(), Refusal> {
+    // A match: a closure cannot be for both kinds of cell.
     match call {
         Call::InsertRows(i, n, v) => sheet.insert_rows(i, n, T::of(v)),
         Call::InsertColumns(i, n, v) => sheet.insert_columns(i, n, T::of(v)),
@@ -90,7 +91,7 @@ fn answers<T: Copy + Marked>(
 
 fn both_kinds(rt: &impl Abort, call: Call<'_>, answer: Result<(), Refusal>, after: After<'_>) {
     answers(rt, call, answer, after, &TABLE, &mut [77; 9], &mut [77; 4]);
-    let notes = [note(1), note(2), note(3), note(4), note(5), note(6)];
+    let notes = notes();
     let mut cells = [note(77); 9];
     answers(
         rt,
