@@ -9,7 +9,8 @@ use Rattle.script.specs.declared.command.Command.{Command}
 use Rattle.script.specs.declared.command.Command.TheVariants.{Insert, Remove, RemoveAt, Swap, New, Resize, Undo, Settle, Print, Remark}
 use Rattle.script.specs.declared.command.Fault.{Fault}
 use Rattle.script.specs.Commands.{decided}
-use Rattle.answers.specs.Answers.{done_text, no_text, row_text}
+use Rattle.answers.specs.declared.answer.Refused.{Refused}
+use Rattle.answers.specs.Answers.{done_text, no_text, refused_text, row_text}
 
 -- a sheet, and whether the script has opened it
 pub record State : Type 0 where
@@ -97,6 +98,11 @@ told number c t (refused k) = no_text number 1 k
 abbrev pub obeyed : State → ℕ → Result Command Fault → State × List ℕ
 obeyed s number (Err f) = (s, no_text number f.word (number_of f.refusal))
 obeyed s number (Ok c) = ((performed s c).0, told number c (performed s c).0.sheet.table (performed s c).1)
+
+-- what is written of a line, by what came of it and the table that the sheet has then
+abbrev pub said : Result Command Refused → Table ℕ → List ℕ
+said (Ok c) t = outcome c t
+said (Err r) t = refused_text r.line r.word r.refusal
 
 -- what is written of the lines, from the one with this number on
 abbrev pub transcript : State → ℕ → List (List ℕ) → List ℕ

@@ -2,7 +2,7 @@ ghost use Rattle.std.specs.Prelude.{◌≡◌, ◌++◌, OnOk};
 ghost use Rattle.journal.specs.View.{answered, side_of, view};
 ghost use Rattle.script.specs.Commands.{decided};
 ghost use Rattle.model.specs.Sheet.{insert_lines, remove_lines};
-ghost use Rattle.session.specs.Transcript.{changing, needs_a_sheet, obeyed, outcome, performed, printed, unopened};
+ghost use Rattle.session.specs.Transcript.{changing, needs_a_sheet, obeyed, outcome, performed, printed, said, unopened};
 ghost use Rattle.session.specs.Meaning.{NewAnswers, state_of};
 
 use super::state::Session;
@@ -114,31 +114,31 @@ impl<'s, 'a> Session<'s, 'a> {
         }
     }
 
+    // Reads and carries out the line with this number: its command, or why it is refused.
+    fn answer(&mut self, number: usize, line: &[u8]) -> Result<Command, Refused>
+        ensures state { state_of self.new ≡ (obeyed (state_of self.old) number (decided line.now)).0 }
+        ensures said { said result (state_of self.new).sheet.table ≡ (obeyed (state_of self.old) number (decided line.now)).1 }
+    {
+        let command = decide(line).map_err(|fault| Refused {
+            line: number,
+            word: fault.word,
+            refusal: fault.refusal,
+        })?;
+        self.perform(command).map_err(|refusal| Refused {
+            line: number,
+            word: 1,
+            refusal,
+        })?;
+        Ok(command)
+    }
+
     // Carries out the line with this number, and appends what is said of it.
     pub fn obey(&mut self, number: usize, line: &[u8], out: &mut Vec<u8>) -> Result<(), AllocError>
         ensures { OnOk result ((state_of self.new ≡ (obeyed (state_of self.old) number (decided line.now)).0) × (out.new.items ≡ out.old.items ++ (obeyed (state_of self.old) number (decided line.now)).1)) }
     {
-        let command = match decide(line) {
-            Ok(command) => command,
-            Err(fault) => return put_answer(
-                out,
-                Err(Refused {
-                    line: number,
-                    word: fault.word,
-                    refusal: fault.refusal,
-                }),
-            ),
-        };
-        match self.perform(command) {
-            Ok(()) => self.put_outcome(command, out),
-            Err(refusal) => put_answer(
-                out,
-                Err(Refused {
-                    line: number,
-                    word: 1,
-                    refusal,
-                }),
-            ),
+        match self.answer(number, line) {
+            Ok(command) => self.put_outcome(command, out),
+            Err(refused) => put_answer(out, Err(refused)),
         }
     }
 }
