@@ -75,7 +75,7 @@ fn leaves<T: Copy + Marked>(
         }
     };
     assert_eq!(rt; got, answer);
-    same_marks(rt, cells, table);
+    assert!(rt; same_marks(cells, table));
     for (k, cell) in target.iter().enumerate() {
         assert_eq!(rt; cell.mark(), written.get(k).copied().unwrap_or(77));
     }

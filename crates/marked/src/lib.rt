@@ -2,10 +2,10 @@
 #![tactic(auto)]
 
 ghost use Rattle.std.specs.Prelude.{◌≡◌, ℕ, [], ◌∷◌, map};
+ghost use Rattle.std.specs.Bool.{Decides};
 ghost use Rattle.marked.specs.Notes.{note_mark, note_of};
 
 use sheet::cell::WeighingNote;
-use std::process::Abort;
 
 // A kind of cell that a number can be written into and read out of again.
 pub trait Marked {
@@ -77,12 +77,17 @@ pub fn notes() -> [WeighingNote; 6]
     [note(1), note(2), note(3), note(4), note(5), note(6)]
 }
 
-// Stops unless the cells have these marks.
-pub fn same_marks<T: Marked>(rt: &impl Abort, cells: &[T], marks: &[u32])
-    ensures { map (λ cell. T.mark_of cell) cells.now ≡ marks.now }
+// Whether the cells have these marks.
+pub fn same_marks<T: Marked>(cells: &[T], marks: &[u32]) -> bool
+    ensures { Decides result (map (λ cell. T.mark_of cell) cells.now ≡ marks.now) }
 {
-    assert_eq!(rt; cells.len(), marks.len());
-    for (cell, mark) in cells.iter().zip(marks) {
-        assert_eq!(rt; cell.mark(), *mark);
+    if cells.len() != marks.len() {
+        return false;
     }
+    for (cell, mark) in cells.iter().zip(marks) {
+        if cell.mark() != *mark {
+            return false;
+        }
+    }
+    true
 }

@@ -83,8 +83,8 @@ fn answers<T: Copy + Marked>(
     );
     assert_eq!(rt; play(&mut sheet, call), answer);
     assert_eq!(rt; sheet.shape(), after.shape);
-    same_marks(rt, sheet.cells(), after.cells);
-    same_marks(rt, sheet.saved(), after.saved);
+    assert!(rt; same_marks(sheet.cells(), after.cells));
+    assert!(rt; same_marks(sheet.saved(), after.saved));
     same_runs(rt, sheet.runs(), after.runs);
     assert_eq!(rt; sheet.entries().len(), if answer.is_ok() { 1 } else { 0 });
 }

@@ -37,8 +37,8 @@ fn holds<T: Copy + Marked>(
     );
     assert_eq!(rt; play(&mut sheet, e.call), e.answer);
     assert_eq!(rt; sheet.shape(), e.shape);
-    same_marks(rt, sheet.cells(), e.cells);
-    same_marks(rt, sheet.saved(), e.saved);
+    assert!(rt; same_marks(sheet.cells(), e.cells));
+    assert!(rt; same_marks(sheet.saved(), e.saved));
     assert_eq!(rt; sheet.runs(), e.runs);
     assert_eq!(rt; sheet.entries().len(), if e.answer.is_ok() { 1 } else { 0 });
 }
