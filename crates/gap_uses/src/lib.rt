@@ -2,9 +2,9 @@
 #![tactic(auto)]
 
 ghost use Rattle.model.specs.Sheet.{row, fill_lines};
-ghost use Rattle.model.specs.Journal.{change, step};
+ghost use Rattle.model.specs.Journal.{change, refused, step};
 ghost use Rattle.journal.specs.View.{view};
-ghost use Rattle.std.specs.Prelude.{◌≡◌};
+ghost use Rattle.std.specs.Prelude.{◌≡◌, ℕ};
 
 use layout::side::Side;
 use sheet::cell::Weight;
@@ -22,7 +22,8 @@ pub fn put_listed_rows<'a, T: Copy>(
     list: &[T],
     v: T,
 ) -> Sheet<'a, T>
-    ensures { view result.parts ≡ (step (view sheet.entry.parts) (change (fill_lines row i n list.now v))).0 }
+    ensures state { view result.parts ≡ (step (view sheet.entry.parts) (change (fill_lines row i n list.now v))).0 }
+    ensures same { (k : ℕ) → (step (view sheet.entry.parts) (change (fill_lines row i n list.now v))).1 ≡ refused k → result.parts ≡ sheet.entry.parts }
 {
     let gap = sheet.open_gap(Side::Rows, i, n);
     gap.fill(list, v)
@@ -35,7 +36,8 @@ pub fn put_weights<'a>(
     n: u32,
     list: &[Weight],
 ) -> Sheet<'a, Weight>
-    ensures { view result.parts ≡ (step (view sheet.entry.parts) (change (fill_lines row i n list.now 0))).0 }
+    ensures state { view result.parts ≡ (step (view sheet.entry.parts) (change (fill_lines row i n list.now 0))).0 }
+    ensures same { (k : ℕ) → (step (view sheet.entry.parts) (change (fill_lines row i n list.now 0))).1 ≡ refused k → result.parts ≡ sheet.entry.parts }
 {
     put_listed_rows(sheet, i, n, list, 0)
 }

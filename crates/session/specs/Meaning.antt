@@ -1,10 +1,11 @@
 -- A session read as the state that its definition speaks of, and what taking a line does.
-use Rattle.std.specs.Prelude.{◌≡◌, ℕ, ◌+◌, ◌<◌, List, ◌∷◌, length, Option, Result, MatchOption}
+use Rattle.std.specs.Prelude.{◌≡◌, ℕ, ◌+◌, ◌<◌, List, [], ◌∷◌, length, Option, Result, MatchOption}
 use Rattle.std.specs.Borrow.{Bor}
 use Rattle.layout.specs.declared.refusal.Refusal.{Refusal}
 use Rattle.journal.specs.View.{answered, view}
 use Rattle.model.specs.Journal.{first_no}
-use Rattle.script.specs.Words.{lines_of}
+use Rattle.std.specs.Option.{unwrap_or}
+use Rattle.script.specs.Words.{front, behind, lines_of}
 use Rattle.session.specs.declared.state.Lines.{Lines}
 use Rattle.session.specs.declared.state.Session.{Session}
 use Rattle.session.specs.Transcript.{State, new_tests, opening, plain}
@@ -21,6 +22,8 @@ pub record NewAnswers (s t : Session) (rows columns v : ℕ) (r : Result Unit Re
 pub record Took (old : Lines) (number : ℕ) (line : List ℕ) (new : Lines) : Type 0 where
   pub numbered : number ≡ old.number
   pub next : new.number ≡ old.number + 1
+  pub taken : line ≡ front 10 old.rest.now
+  pub left : new.rest.now ≡ unwrap_or (behind 10 old.rest.now) []
   pub first : lines_of old.rest.now ≡ line ∷ lines_of new.rest.now
   pub shorter : length new.rest.now < length old.rest.now
 

@@ -1,4 +1,4 @@
-ghost use Rattle.std.specs.Prelude.{◌≡◌, ◌<◌, ◌++◌, length, take, vec_len, OnOk, ◌==◌};
+ghost use Rattle.std.specs.Prelude.{◌≡◌, ◌<◌, ◌≤◌, ◌⊎◌, ◌++◌, length, take, vec_len, OnOk, ◌==◌};
 ghost use Rattle.std.specs.Iterator.{at_most};
 ghost use Rattle.script.specs.Words.{lines_of};
 ghost use Rattle.session.specs.Transcript.{transcript};
@@ -51,7 +51,9 @@ impl<'s, 'a> Session<'s, 'a> {
     // What is written, and what the lines left would write, is what all of them write.
     pub fn run(&mut self, lines: &mut Lines<'_>, out: &mut Vec<u8>) -> Result<(), AllocError>
         ensures text { OnOk result (out.new.items ++ transcript (state_of self.new) lines.new.number (lines_of lines.new.rest.now) ≡ out.old.items ++ transcript (state_of self.old) lines.old.number (lines_of lines.old.rest.now)) }
-        ensures goes { OnOk result ((0 < length lines.old.rest.now → vec_len out.old < 65536 → length lines.new.rest.now < length lines.old.rest.now)) }
+        ensures goes { OnOk result (0 < length lines.old.rest.now → vec_len out.old < 65536 → length lines.new.rest.now < length lines.old.rest.now) }
+        ensures ends { OnOk result ((length lines.new.rest.now ≡ 0) ⊎ (65536 ≤ vec_len out.new)) }
+        ensures full { OnOk result (65536 ≤ vec_len out.old → (lines.new ≡ lines.old) × (state_of self.new ≡ state_of self.old) × (out.new.items ≡ out.old.items)) }
     {
         // It stops for want of room too, so this is no `for`.
         while out.len() < 65536

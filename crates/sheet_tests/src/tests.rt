@@ -43,7 +43,7 @@ fn holds<T: Copy + Marked>(
     assert_eq!(rt; sheet.entries().len(), if e.answer.is_ok() { 1 } else { 0 });
 }
 
-// The examples of the first landing, as they stood then; changes.rt has them again among others.
+// The examples of the first landing, with the inputs and answers of then; changes.rt has them again among others.
 #[test]
 fn worked_tables(rt: HostRuntime) {
     let table: &[u32] = &TABLE;
