@@ -1,7 +1,7 @@
 -- Lines of a table selected by a list.
 use Rattle.std.specs.Prelude.{ℕ, ◌+◌, ◌*◌, ◌<◌, ◌≤◌, List, [], ◌∷◌, length, slice_index}
 use Rattle.layout.specs.declared.refusal.Refusal.{Refusal}
-use Rattle.layout.specs.Checks.{Rule, ◌else◌}
+use Rattle.layout.specs.Checks.{Rule, ◌else◌, few_lines, reaches}
 use Rattle.layout.specs.Lawful.{Grid, Distinct}
 use Rattle.layout.specs.Picked.{Below}
 use Rattle.layout.specs.Written.{Written, cell_of}
@@ -11,9 +11,9 @@ use Rattle.edition.specs.declared.Lines.{Lines}
 abbrev pub select_rules : Grid → List ℕ → (source target : ℕ) → List Rule
 select_rules grid list source target =
     (Below list grid.rows else Refusal.NoSuchLine)
-    ∷ (((length list ≤ 4096) × (grid.columns ≤ 4096)) else Refusal.TooManyLines)
+    ∷ few_lines (length list) grid.columns
     ∷ ((length list * grid.columns ≤ target) else Refusal.TooManyCells)
-    ∷ ((grid.span ≤ source) else Refusal.BufferTooShort)
+    ∷ reaches grid source
     ∷ []
 
 -- the listed columns of a table, in the list's order

@@ -1,14 +1,14 @@
 -- Two lines change places.
-use Rattle.std.specs.Prelude.{◌≡◌, ℕ, ◌<◌, ◌≤◌, cond, ◌⊎◌, List, [], ◌∷◌, ◌==◌}
+use Rattle.std.specs.Prelude.{◌≡◌, ℕ, ◌<◌, cond, ◌⊎◌, List, [], ◌∷◌, ◌==◌}
 use Rattle.layout.specs.declared.refusal.Refusal.{Refusal}
-use Rattle.layout.specs.Checks.{Rule, ◌else◌}
+use Rattle.layout.specs.Checks.{Rule, ◌else◌, reaches}
 use Rattle.layout.specs.Lawful.{Grid}
 use Rattle.layout.specs.Written.{Written, cell_of}
 
 -- what swapping rows i and j asks, of a buffer of so many places
 abbrev pub swap_rules : Grid → (i j buffer : ℕ) → List Rule
 swap_rules grid i j buffer =
-    (((i < grid.rows) × (j < grid.rows)) else Refusal.NoSuchLine) ∷ ((grid.span ≤ buffer) else Refusal.BufferTooShort) ∷ []
+    (((i < grid.rows) × (j < grid.rows)) else Refusal.NoSuchLine) ∷ reaches grid buffer ∷ []
 
 -- the other one of i and j
 abbrev pub other : (i j k : ℕ) → ℕ

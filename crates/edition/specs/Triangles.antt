@@ -1,17 +1,17 @@
 -- Triangles of a table: filled with a value, or with the cells across the diagonal.
 use Rattle.std.specs.Prelude.{◌≡◌, ℕ, ◌+◌, ◌<◌, ◌≤◌, List, [], ◌∷◌}
 use Rattle.layout.specs.declared.refusal.Refusal.{Refusal}
-use Rattle.layout.specs.Checks.{Rule, ◌else◌}
+use Rattle.layout.specs.Checks.{Rule, ◌else◌, reaches}
 use Rattle.layout.specs.Lawful.{Grid}
 use Rattle.layout.specs.Written.{Written, cell_of}
 
 -- what filling asks, of a buffer of so many places
 abbrev pub fill_rules : Grid → (buffer : ℕ) → List Rule
-fill_rules grid buffer = ((grid.span ≤ buffer) else Refusal.BufferTooShort) ∷ []
+fill_rules grid buffer = reaches grid buffer ∷ []
 
 -- what copying across the diagonal asks besides
 abbrev pub square_rules : Grid → (buffer : ℕ) → List Rule
-square_rules grid buffer = ((grid.span ≤ buffer) else Refusal.BufferTooShort) ∷ ((grid.rows ≡ grid.columns) else Refusal.NotSquare) ∷ []
+square_rules grid buffer = reaches grid buffer ∷ ((grid.rows ≡ grid.columns) else Refusal.NotSquare) ∷ []
 
 -- the cells at least s rows below the diagonal hold v
 abbrev pub LowerFilled : {T : Type 0} → Grid → (was is : List T) → T → (s : ℕ) → Type 0

@@ -13,7 +13,7 @@ ghost use Rattle.edition.specs.Turned.{turn};
 
 use layout::indexing::all_below;
 use layout::refusal::Refusal;
-use layout::storage::{Layout, read, write};
+use layout::storage::{Layout, ask_lines, ask_span, read, write};
 use turned::Turned;
 
 mod turned;
@@ -32,9 +32,7 @@ pub fn swap_rows<L: Layout, T: Copy>(
     if i >= rows || j >= rows {
         return Err(Refusal::NoSuchLine);
     }
-    if layout.span() as usize > buffer.len() {
-        return Err(Refusal::BufferTooShort);
-    }
+    ask_span(layout, buffer.len())?;
     for column in 0..columns {
         let p = layout.place(i, column) as usize;
         let q = layout.place(j, column) as usize;
@@ -79,9 +77,7 @@ pub fn fill_lower_triangle<L: Layout, T: Copy>(
     ensures answer { Checked (fill_rules (L.grid layout.now) (length buffer.old)) result }
     ensures after { MatchResult result (λ _. LowerFilled (L.grid layout.now) buffer.old buffer.new v s) (λ _. buffer.new ≡ buffer.old) }
 {
-    if layout.span() as usize > buffer.len() {
-        return Err(Refusal::BufferTooShort);
-    }
+    ask_span(layout, buffer.len())?;
     let (_, columns) = layout.shape();
     for c in 0..columns {
         // A sum too large for 32 bits is below the last row too.
@@ -125,9 +121,7 @@ pub fn fill_lower_triangle_with_upper_triangle<L: Layout, T: Copy>(
     ensures answer { Checked (square_rules (L.grid layout.now) (length buffer.old)) result }
     ensures after { MatchResult result (λ _. LowerCopied (L.grid layout.now) buffer.old buffer.new) (λ _. buffer.new ≡ buffer.old) }
 {
-    if layout.span() as usize > buffer.len() {
-        return Err(Refusal::BufferTooShort);
-    }
+    ask_span(layout, buffer.len())?;
     let (rows, columns) = layout.shape();
     if rows != columns {
         return Err(Refusal::NotSquare);
@@ -195,15 +189,11 @@ fn select_lines<L: Layout, T: Copy>(
     if !all_below(list, rows) {
         return Err(Refusal::NoSuchLine);
     }
-    if list.len() > 4096 || columns > 4096 {
-        return Err(Refusal::TooManyLines);
-    }
+    ask_lines(list.len(), columns as usize)?;
     if list.len() * columns as usize > target.len() {
         return Err(Refusal::TooManyCells);
     }
-    if layout.span() as usize > source.len() {
-        return Err(Refusal::BufferTooShort);
-    }
+    ask_span(layout, source.len())?;
     for (k, line) in list.iter().enumerate() {
         copy_line(layout, source, *line, target, to, k);
     }

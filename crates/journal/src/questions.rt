@@ -5,6 +5,7 @@ ghost use Rattle.journal.specs.Asking.{Fits, rooms};
 
 use super::parts::Parts;
 use layout::refusal::Refusal;
+use layout::storage::ask_lines;
 
 // Questions 3 to 7, the same for every change: it leaves so many rows and columns, and has so many runs and lost
 // cells of its own.
@@ -18,9 +19,7 @@ pub fn ask<T>(
     ensures which { answered result ≡ first_no (rooms (view p.now) rows columns runs cells) }
     ensures goes { answered result ≡ done → Fits p.now rows columns runs cells }
 {
-    if rows > 4096 || columns > 4096 {
-        return Err(Refusal::TooManyLines);
-    }
+    ask_lines(rows, columns)?;
     if rows * columns > p.table.cells.len() {
         return Err(Refusal::TooManyCells);
     }

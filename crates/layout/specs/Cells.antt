@@ -1,13 +1,13 @@
 -- A layout's table in a buffer: a cell read, a column handed out, all of it copied to a dense one.
 use Rattle.std.specs.Prelude.{◌≡◌, ℕ, ◌+◌, ◌*◌, ◌<◌, ◌≤◌, List, [], ◌∷◌, length, Some, None, Option, slice_index_or}
 use Rattle.layout.specs.declared.refusal.Refusal.{Refusal}
-use Rattle.layout.specs.Checks.{Rule, ◌else◌}
+use Rattle.layout.specs.Checks.{Rule, ◌else◌, reaches}
 use Rattle.layout.specs.Lawful.{Grid}
 
 -- what copying a table asks, of a source and of a buffer for it of so many cells
 abbrev pub clone_rules : Grid → ℕ → ℕ → List Rule
 clone_rules grid source cells =
-    ((grid.rows * grid.columns ≤ cells) else Refusal.TooManyCells) ∷ ((grid.span ≤ source) else Refusal.BufferTooShort) ∷ []
+    ((grid.rows * grid.columns ≤ cells) else Refusal.TooManyCells) ∷ reaches grid source ∷ []
 
 -- `is` has the first n cells of column c of the table that the grid has in xs, and is `was` elsewhere
 pub record ColumnCloned {T : Type 0} (grid : Grid) (xs was is : List T) (c n : ℕ) : Type 0 where
@@ -30,4 +30,4 @@ Read grid buffer row column None = (row < grid.rows) × (column < grid.columns) 
 
 -- what handing out column c asks, of a buffer of so many cells
 abbrev pub column_rules : Grid → ℕ → ℕ → List Rule
-column_rules grid c cells = ((c < grid.columns) else Refusal.NoSuchLine) ∷ ((grid.span ≤ cells) else Refusal.BufferTooShort) ∷ []
+column_rules grid c cells = ((c < grid.columns) else Refusal.NoSuchLine) ∷ reaches grid cells ∷ []

@@ -1,6 +1,7 @@
 -- What a check asks, and which refusal comes.
 use Rattle.std.specs.Prelude.{◌≡◌, ℕ, ◌*◌, ◌≤◌, ◌⊎◌, List, [], ◌∷◌, Ok, Err, Result}
 use Rattle.layout.specs.declared.refusal.Refusal.{Refusal}
+use Rattle.layout.specs.Lawful.{Grid}
 
 -- one thing that a check asks, and the refusal if it does not hold
 pub record Rule : Type 1 where
@@ -25,8 +26,16 @@ abbrev pub Checked : {T : Type 0} → List Rule → Result T Refusal → Type 0
 Checked rules (Ok done) = Passes rules
 Checked rules (Err e) = Refuses rules e
 
+-- a shape has few lines
+abbrev pub few_lines : (rows columns : ℕ) → Rule
+few_lines rows columns = ((rows ≤ 4096) × (columns ≤ 4096)) else Refusal.TooManyLines
+
+-- a buffer of so many places reaches the grid's span
+abbrev pub reaches : Grid → ℕ → Rule
+reaches grid places = (grid.span ≤ places) else Refusal.BufferTooShort
+
 abbrev pub dense_rules : (rows columns : ℕ) → List Rule
 dense_rules rows columns =
-    (((rows ≤ 4096) × (columns ≤ 4096)) else Refusal.TooManyLines)
+    few_lines rows columns
     ∷ ((rows * columns ≤ 65536) else Refusal.TooManyCells)
     ∷ []

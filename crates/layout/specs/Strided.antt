@@ -6,7 +6,7 @@ use Rattle.std.proofs.Math.Nat.{ℕ_set}
 use Rattle.std.proofs.lemmas.Nat.{mul-le}
 use Rattle.std.proofs.lemmas.Bool.{cond-false, ne_eqb}
 use Rattle.layout.specs.declared.refusal.Refusal.{Refusal}
-use Rattle.layout.specs.Checks.{Rule, ◌else◌}
+use Rattle.layout.specs.Checks.{Rule, ◌else◌, few_lines}
 use Rattle.layout.specs.Dense.{same_parts}
 use Rattle.layout.specs.Lawful.{Grid, Lawful, Distinct}
 
@@ -39,7 +39,7 @@ Apart row_step column_step rows columns =
 
 abbrev pub strided_rules : (first row_step column_step rows columns : ℕ) → List Rule
 strided_rules first row_step column_step rows columns =
-    (((rows ≤ 4096) × (columns ≤ 4096)) else Refusal.TooManyLines)
+    few_lines rows columns
     ∷ ((strided_span first row_step column_step rows columns ≤ 65536) else Refusal.TooManyCells)
     ∷ (Apart row_step column_step rows columns else Refusal.CellsMeet)
     ∷ []

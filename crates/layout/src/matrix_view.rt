@@ -6,7 +6,7 @@ ghost use Rattle.layout.specs.Lawful.{dense};
 ghost use Rattle.layout.specs.Strided.{Apart, Ends, strided, strided_lawful, strided_rules, strided_span};
 
 use super::refusal::Refusal;
-use super::storage::Layout;
+use super::storage::{Layout, ask_lines, ask_span};
 use super::vec_storage::Dense;
 
 // From a first place on, a step for each row and one for each column.
@@ -56,9 +56,7 @@ impl Strided {
         ensures answer { Checked (strided_rules first row_step column_step rows columns) result }
         ensures made { IfOk result (λ s. (s.rows ≡ rows) × (s.columns ≡ columns) × (s.first ≡ first) × (s.row_step ≡ row_step) × (s.column_step ≡ column_step)) }
     {
-        if rows > 4096 || columns > 4096 {
-            return Err(Refusal::TooManyLines);
-        }
+        ask_lines(rows as usize, columns as usize)?;
         if span_of(rows, columns, first, row_step, column_step) > 65536 {
             return Err(Refusal::TooManyCells);
         }
@@ -144,9 +142,7 @@ pub fn column<'b, T>(layout: &Dense, buffer: &'b [T], index: u32) -> Result<&'b 
     if index >= columns {
         return Err(Refusal::NoSuchLine);
     }
-    if layout.span() as usize > buffer.len() {
-        return Err(Refusal::BufferTooShort);
-    }
+    ask_span(layout, buffer.len())?;
     let from = index as usize * rows as usize;
     Ok(&buffer[from..from + rows as usize])
 }

@@ -1,7 +1,7 @@
 // A layout: a shape, a span, and a place below the span for each cell of the shape.
-ghost use Rattle.std.specs.Prelude.{◌≡◌, ◌+◌, ◌*◌, ◌<◌, ◌≤◌, length, MatchResult};
+ghost use Rattle.std.specs.Prelude.{◌≡◌, ◌+◌, ◌*◌, ◌<◌, ◌≤◌, [], ◌∷◌, length, MatchResult};
 ghost use Rattle.layout.specs.Cells.{Cloned, ColumnCloned, clone_rules};
-ghost use Rattle.layout.specs.Checks.{Checked};
+ghost use Rattle.layout.specs.Checks.{Checked, few_lines, reaches};
 ghost use Rattle.layout.specs.Lawful.{Grid, Lawful};
 ghost use Rattle.layout.specs.Written.{Written, cell_of};
 
@@ -21,11 +21,32 @@ pub trait Layout {
     fn span(&self) -> u32
         ensures { result ≡ (grid self.now).span };
 
-    // Where the cell lies; the span for a cell outside the shape.
+    // Where the cell lies; the span for a cell outside the shape. No Option: a layout answers any two numbers with one
+    // more, and the span is no cell's place.
     fn place(&self, row: u32, column: u32) -> u32
         ensures inside { row < (grid self.now).rows → column < (grid self.now).columns → result ≡ (grid self.now).place row column }
         ensures below { (grid self.now).rows ≤ row → result ≡ (grid self.now).span }
         ensures beside { (grid self.now).columns ≤ column → result ≡ (grid self.now).span };
+}
+
+// Puts question 3, of a shape.
+pub fn ask_lines(rows: usize, columns: usize) -> Result<(), Refusal>
+    ensures { Checked (few_lines rows columns ∷ []) result }
+{
+    if rows > 4096 || columns > 4096 {
+        return Err(Refusal::TooManyLines);
+    }
+    Ok(())
+}
+
+// Puts question 10, of a buffer of so many places.
+pub fn ask_span<L: Layout>(layout: &L, places: usize) -> Result<(), Refusal>
+    ensures { Checked (reaches (L.grid layout.now) places ∷ []) result }
+{
+    if layout.span() as usize > places {
+        return Err(Refusal::BufferTooShort);
+    }
+    Ok(())
 }
 
 // The cell of a row and a column, in a buffer that reaches the span.
@@ -79,9 +100,7 @@ pub fn clone_owned<L: Layout, T: Copy>(
     if rows as usize * columns as usize > cells.len() {
         return Err(Refusal::TooManyCells);
     }
-    if layout.span() as usize > source.len() {
-        return Err(Refusal::BufferTooShort);
-    }
+    ask_span(layout, source.len())?;
     for c in 0..columns {
         clone_column(layout, source, cells, rows, c);
     }

@@ -5,7 +5,7 @@ ghost use Rattle.layout.specs.Lawful.{dense};
 ghost use Rattle.layout.specs.Dense.{dense_lawful};
 
 use super::refusal::Refusal;
-use super::storage::Layout;
+use super::storage::{Layout, ask_lines};
 
 #[derive(Drop)]
 pub struct Dense {
@@ -22,9 +22,7 @@ impl Dense {
         ensures answer { Checked (dense_rules rows columns) result }
         ensures made { IfOk result (λ d. (d.rows ≡ rows) × (d.columns ≡ columns)) }
     {
-        if rows > 4096 || columns > 4096 {
-            return Err(Refusal::TooManyLines);
-        }
+        ask_lines(rows as usize, columns as usize)?;
         if rows * columns > 65536 {
             return Err(Refusal::TooManyCells);
         }

@@ -3,7 +3,7 @@ use Rattle.std.specs.Prelude.{◌≡◌, ℕ, ◌*◌, ◌<◌, ◌≤◌, List,
 use Rattle.std.specs.List.{flat_map}
 use Rattle.layout.specs.declared.refusal.Refusal.{Refusal}
 use Rattle.layout.specs.Lawful.{Grid}
-use Rattle.layout.specs.Checks.{Rule, ◌else◌}
+use Rattle.layout.specs.Checks.{Rule, ◌else◌, few_lines, reaches}
 use Rattle.model.specs.Sheet.{Table, cell_at}
 use Rattle.model.specs.Journal.{Room, places}
 
@@ -30,9 +30,9 @@ room_in cells entries runs saved = room (length cells) (length entries) (length 
 abbrev pub opening_rules : Grid → ℕ → Room → List Rule
 opening_rules grid source r =
     (((r.for_cells ≤ 65536) × (r.for_entries ≤ 4096) × (r.for_runs ≤ 32768) × (r.for_saved ≤ 65536)) else Refusal.BufferTooLarge)
-    ∷ (((grid.rows ≤ 4096) × (grid.columns ≤ 4096)) else Refusal.TooManyLines)
+    ∷ few_lines grid.rows grid.columns
     ∷ ((grid.rows * grid.columns ≤ r.for_cells) else Refusal.TooManyCells)
-    ∷ ((grid.span ≤ source) else Refusal.BufferTooShort)
+    ∷ reaches grid source
     ∷ []
 
 -- the cell if it is in the shape, else nothing

@@ -9,7 +9,8 @@ swap-requires g c =
     let q = law.within c.args.j c.loop-column.column (omega arith) (omega arith) in
     let i = c.place-p.ensures.inside (omega arith) (omega arith) in
     let j = c.place-q.ensures.inside (omega arith) (omega arith) in
-    record { a_in_bounds = omega arith; b_in_bounds = omega arith }
+    let room = c.in_ok-ask_span.ensures.0 in
+    record { a_in_bounds = omega (arith, room); b_in_bounds = omega (arith, room) }
 
 pub loop-column-preserved : goal.loop-column-preserved
 loop-column-preserved g c =
