@@ -36,7 +36,7 @@ module _ {X : Type 0} (xs ys : List X) (m columns i n : ℕ) where
 
     pub inserted_new : (k : ℕ) (d : X) → k < n * m → get_or ys (i * m + k) d ≡ v
     inserted_new k d l =
-        at ys d (i * m + k) (i * m + k + 0 * (m * columns + n * m)) (omega (arith, zero-mul (m * columns + n * m))) ∙ h.filled k 0 d l (lit< tt)
+        at ys d (i * m + k) (i * m + k + 0 * (m * columns + n * m)) (omega (arith, zero-mul (m * columns + n * m))) ∙ h.put k 0 d l (lit< tt)
 
     pub inserted_behind : (k : ℕ) (d : X) → i * m ≤ k → k < m * columns → get_or ys (k + n * m) d ≡ get_or xs k d
     inserted_behind k d l b =

@@ -3,15 +3,7 @@ use Rattle.std.proofs.Common.{◌≡◌, ℕ, ◌+◌, ◌*◌, ◌≤◌, sym, 
 use Rattle.layout.specs.declared.side.Side.{Side}
 use Rattle.layout.specs.declared.side.Side.TheVariants.{Rows, Columns}
 use Rattle.moves.specs.declared.vec_storage.Block.{Block}
-use Rattle.moves.specs.Blocks.{block_of, cells_in, cells_with, lines_in}
-
--- the block lies in its table, and that in so many cells
-abbrev pub Inside : Block → ℕ → Type 0
-Inside b cells = (b.first + b.count ≤ b.rows) × (b.rows * b.columns ≤ cells)
-
--- with the block's rows more the table lies in so many cells
-abbrev pub Opens : Block → ℕ → Type 0
-Opens b cells = (b.first ≤ b.rows) × ((b.rows + b.count) * b.columns ≤ cells)
+use Rattle.moves.specs.Blocks.{Inside, Opens, block_of, cells_in, lines_in}
 
 pub block_inside : (side : Side) (rows columns i n cells : ℕ) (b : Block) → b ≡ block_of side rows columns i n → i + n ≤ lines_in side rows columns
     → rows * columns ≤ cells → Inside b cells × (b.count * b.columns ≡ cells_in side n rows columns)
@@ -26,10 +18,10 @@ block_inside side rows columns i n cells b e h k =
     )
 
 pub block_opens : (side : Side) (rows columns i n cells : ℕ) (b : Block) → b ≡ block_of side rows columns i n → i ≤ lines_in side rows columns
-    → cells_with side (lines_in side rows columns + n) rows columns ≤ cells → Opens b cells
+    → cells_in side (lines_in side rows columns + n) rows columns ≤ cells → Opens b cells
 block_opens side rows columns i n cells b e h k = subst (λ z. Opens z cells) (sym e) (go side h k)
   where
-    go : (s : Side) → i ≤ lines_in s rows columns → cells_with s (lines_in s rows columns + n) rows columns ≤ cells → Opens (block_of s rows columns i n) cells
+    go : (s : Side) → i ≤ lines_in s rows columns → cells_in s (lines_in s rows columns + n) rows columns ≤ cells → Opens (block_of s rows columns i n) cells
     go Rows h k = (h, k)
     go Columns h k = (
       omega (arith, mul-le-mul_right rows h, mul_comm rows columns),

@@ -1,5 +1,5 @@
 -- The lines of a side, and some of them as rows of a table.
-use Rattle.std.specs.Prelude.{ℕ, ◌*◌}
+use Rattle.std.specs.Prelude.{ℕ, ◌+◌, ◌*◌, ◌≤◌}
 use Rattle.layout.specs.declared.side.Side.{Side}
 use Rattle.layout.specs.declared.side.Side.TheVariants.{Rows, Columns}
 use Rattle.moves.specs.declared.vec_storage.Block.{Block}
@@ -9,7 +9,7 @@ abbrev pub lines_in : Side → (rows columns : ℕ) → ℕ
 lines_in Rows rows columns = rows
 lines_in Columns rows columns = columns
 
--- the rows, the columns and the cells of a table that is given k lines of the side
+-- the rows and the columns of a table that is given k lines of the side
 abbrev pub rows_with : Side → (k rows : ℕ) → ℕ
 rows_with Rows k rows = k
 rows_with Columns k rows = rows
@@ -18,13 +18,9 @@ abbrev pub columns_with : Side → (k columns : ℕ) → ℕ
 columns_with Rows k columns = columns
 columns_with Columns k columns = k
 
-abbrev pub cells_with : Side → (k rows columns : ℕ) → ℕ
-cells_with side k rows columns = rows_with side k rows * columns_with side k columns
-
--- how many cells n lines of the side have
-abbrev pub cells_in : Side → (n rows columns : ℕ) → ℕ
-cells_in Rows n rows columns = n * columns
-cells_in Columns n rows columns = rows * n
+-- how many cells k lines of the side have
+abbrev pub cells_in : Side → (k rows columns : ℕ) → ℕ
+cells_in side k rows columns = rows_with side k rows * columns_with side k columns
 
 -- n rows at i
 abbrev pub rows_block : (rows columns i n : ℕ) → Block
@@ -34,3 +30,11 @@ rows_block rows columns i n = record { rows = rows; columns = columns; first = i
 abbrev pub block_of : Side → (rows columns i n : ℕ) → Block
 block_of Rows rows columns i n = rows_block rows columns i n
 block_of Columns rows columns i n = rows_block (rows * columns) 1 (i * rows) (n * rows)
+
+-- the block lies in its table, and that in so many cells
+abbrev pub Inside : Block → ℕ → Type 0
+Inside b cells = (b.first + b.count ≤ b.rows) × (b.rows * b.columns ≤ cells)
+
+-- with the block's rows more the table lies in so many cells
+abbrev pub Opens : Block → ℕ → Type 0
+Opens b cells = (b.first ≤ b.rows) × ((b.rows + b.count) * b.columns ≤ cells)

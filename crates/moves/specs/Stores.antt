@@ -13,6 +13,7 @@ room s = length s.places.now
 abbrev pub stands : {X : Type 0} → Store X → List X
 stands s = s.places.now
 
--- no place behind the items of t is other than in s
-abbrev pub BehindKept : {X : Type 0} → Store X → Store X → Type 0
-BehindKept {X} s t = (k : ℕ) (d : X) → length (items t) ≤ k → slice_index_or (stands t) k d ≡ slice_index_or (stands s) k d
+-- t has the places of s, and in those behind its items what stands in s
+pub record Kept {X : Type 0} (s t : Store X) : Type 0 where
+  pub room : room t ≡ room s
+  pub behind : (k : ℕ) (d : X) → length (items t) ≤ k → slice_index_or (stands t) k d ≡ slice_index_or (stands s) k d

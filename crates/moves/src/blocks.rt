@@ -1,7 +1,7 @@
 // Moves of blocks of cells inside one buffer, and copies between two.
 ghost use Rattle.std.specs.Prelude.{◌≡◌, ◌+◌, ◌≤◌, true, length};
 ghost use Rattle.moves.specs.Sizes.{Roomy};
-ghost use Rattle.moves.specs.Slides.{Copied, Filled, Slid};
+ghost use Rattle.moves.specs.Slides.{Copied, Filled};
 
 // Whether a value of the type takes less than 128 KiB. The compiler knows.
 fn is_small<T>() -> bool
@@ -10,13 +10,13 @@ fn is_small<T>() -> bool
     size_of::<T>() < 0x2_0000
 }
 
-// Moves at most 4096 cells either way, by way of a local array, so the two ranges may overlap.
+// Moves at most 4,096 cells either way, by way of a local array, so the two ranges may overlap.
 // The compiler makes one memmove of this, and no array. Of `copy_within` it makes none: for 60,000 weights that took
 // 1.7 times as long. `len` is tested first: else the copies in and out each have a test of their own, and the compiler
 // does not join them.
 fn slide_block<T: Copy>(cells: &mut [T], from: usize, to: usize, len: usize)
     requires { (from + len ≤ length cells.old) × (to + len ≤ length cells.old) × (len ≤ 4096) }
-    ensures { Slid cells.old cells.new from to len }
+    ensures { Copied cells.old cells.old cells.new from to len }
 {
     if len == 0 {
         return;
@@ -35,7 +35,7 @@ fn slide_block<T: Copy>(cells: &mut [T], from: usize, to: usize, len: usize)
 // on, so a cell is read before it is written over.
 pub fn slide<T: Copy>(cells: &mut [T], from: usize, to: usize, len: usize)
     requires { (from + len ≤ length cells.old) × (to + len ≤ length cells.old) }
-    ensures { Slid cells.old cells.new from to len }
+    ensures { Copied cells.old cells.old cells.new from to len }
 {
     // So few cells are moved before a call of memmove is under way.
     if len < 8 {

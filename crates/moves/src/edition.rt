@@ -1,8 +1,8 @@
 // Rows put into and taken out of a table that lies column by column at the start of a buffer: the cell of row r and
 // column c is at r + c * rows. The lines of either side are such rows.
 ghost use Rattle.std.specs.Prelude.{◌≡◌, ◌+◌, ◌-◌, ◌*◌, ◌≤◌, length};
-ghost use Rattle.moves.specs.Blocks.{block_of, cells_in, cells_with, columns_with, lines_in, rows_with};
-ghost use Rattle.moves.specs.Stores.{BehindKept, items, room};
+ghost use Rattle.moves.specs.Blocks.{Inside, Opens, block_of, cells_in, columns_with, lines_in, rows_with};
+ghost use Rattle.moves.specs.Stores.{Kept, items, room};
 ghost use Rattle.moves.specs.Tables.{Compressed, Extended, Inserted, Opened, Put, Restored, RowsFilled, Saved};
 
 use crate::blocks::{copy_block, fill_range, slide};
@@ -14,7 +14,7 @@ use layout::side::Side;
 // To the left, columns from the first on, so a cell is read before it is written over. A move takes
 // what is below the gap in a column along with what is above it in the next.
 pub fn compress_rows<T: Copy>(cells: &mut [T], b: Block)
-    requires { (b.first + b.count ≤ b.rows) × (b.rows * b.columns ≤ length cells.old) }
+    requires { Inside b (length cells.old) }
     ensures { Compressed cells.old cells.new b }
 {
     if b.count == 0 || b.columns == 0 {
@@ -46,11 +46,10 @@ fn open_columns<T: Copy>(cells: &mut [T], b: Block)
     }
 }
 
-// Makes room for the rows: the table then has so many rows more. Of the new cells only those of the first column are
-// spoken of: they hold what stood there.
+// Makes room for the rows: the table then has so many rows more, which hold what stood at their places.
 // To the right, columns from the last on, so a cell is read before it is written over.
 pub fn extend_rows<T: Copy>(cells: &mut [T], b: Block)
-    requires { (b.first ≤ b.rows) × ((b.rows + b.count) * b.columns ≤ length cells.old) }
+    requires { Opens b (length cells.old) }
     ensures { Extended cells.old cells.new b }
 {
     if b.count == 0 || b.columns == 0 {
@@ -70,10 +69,9 @@ pub fn extend_rows<T: Copy>(cells: &mut [T], b: Block)
 
 // Copies the rows to a store, column by column.
 pub fn save_rows<T: Copy>(cells: &[T], b: Block, saved: &mut Store<'_, T>)
-    requires { (b.first + b.count ≤ b.rows) × (b.rows * b.columns ≤ length cells.now) × (length (items saved.old) + b.count * b.columns ≤ room saved.old) }
+    requires { Inside b (length cells.now) × (length (items saved.old) + b.count * b.columns ≤ room saved.old) }
     ensures saved { Saved cells.now (items saved.old) (items saved.new) b }
-    ensures same { room saved.new ≡ room saved.old }
-    ensures behind { BehindKept saved.old saved.new }
+    ensures kept { Kept saved.old saved.new }
 {
     for c in 0..b.columns {
         let from = b.first + c * b.rows;
@@ -83,7 +81,7 @@ pub fn save_rows<T: Copy>(cells: &[T], b: Block, saved: &mut Store<'_, T>)
 
 // Writes rows that were saved over those of the block.
 pub fn put_rows<T: Copy>(saved: &[T], cells: &mut [T], b: Block)
-    requires { (b.first + b.count ≤ b.rows) × (b.rows * b.columns ≤ length cells.old) × (b.count * b.columns ≤ length saved.now) }
+    requires { Inside b (length cells.old) × (b.count * b.columns ≤ length saved.now) }
     ensures { Put saved.now cells.old cells.new b }
 {
     for c in 0..b.columns {
@@ -94,9 +92,8 @@ pub fn put_rows<T: Copy>(saved: &[T], cells: &mut [T], b: Block)
 }
 
 // Puts rows that were saved in where they were taken out of.
-// To the right, columns from the last on.
 pub fn restore_rows<T: Copy>(saved: &[T], cells: &mut [T], b: Block)
-    requires { (b.first ≤ b.rows) × ((b.rows + b.count) * b.columns ≤ length cells.old) × (b.count * b.columns ≤ length saved.now) }
+    requires { Opens b (length cells.old) × (b.count * b.columns ≤ length saved.now) }
     ensures { Restored saved.now cells.old cells.new b }
 {
     if b.columns == 0 {
@@ -108,7 +105,7 @@ pub fn restore_rows<T: Copy>(saved: &[T], cells: &mut [T], b: Block)
 
 // Writes v into each cell of the rows.
 pub fn fill_rows<T: Copy>(cells: &mut [T], b: Block, v: T)
-    requires { (b.first + b.count ≤ b.rows) × (b.rows * b.columns ≤ length cells.old) }
+    requires { Inside b (length cells.old) }
     ensures { RowsFilled cells.old cells.new b v }
 {
     for c in 0..b.columns {
@@ -117,9 +114,8 @@ pub fn fill_rows<T: Copy>(cells: &mut [T], b: Block, v: T)
 }
 
 // Puts rows of v in.
-// To the right, columns from the last on.
 pub fn insert_rows<T: Copy>(cells: &mut [T], b: Block, v: T)
-    requires { (b.first ≤ b.rows) × ((b.rows + b.count) * b.columns ≤ length cells.old) }
+    requires { Opens b (length cells.old) }
     ensures { Inserted cells.old cells.new b v }
 {
     if b.columns == 0 {
@@ -135,8 +131,7 @@ impl<'a, T: Copy> Table<'a, T> {
         requires there { i + n ≤ lines_in side self.now.rows self.now.columns }
         requires fits { length (items saved.old) + cells_in side n self.now.rows self.now.columns ≤ room saved.old }
         ensures saved { Saved self.now.cells.now (items saved.old) (items saved.new) (block_of side self.now.rows self.now.columns i n) }
-        ensures same { room saved.new ≡ room saved.old }
-        ensures behind { BehindKept saved.old saved.new }
+        ensures kept { Kept saved.old saved.new }
     {
         let b = self.block(side, i, n);
         save_rows(self.cells, b, saved);
@@ -157,7 +152,7 @@ impl<'a, T: Copy> Table<'a, T> {
     // Makes room for n lines at i; the shape is left to the caller.
     pub fn extend_lines(&mut self, side: Side, i: u32, n: u32)
         requires there { i ≤ lines_in side self.old.rows self.old.columns }
-        requires fits { cells_with side (lines_in side self.old.rows self.old.columns + n) self.old.rows self.old.columns ≤ length self.old.cells.now }
+        requires fits { cells_in side (lines_in side self.old.rows self.old.columns + n) self.old.rows self.old.columns ≤ length self.old.cells.now }
         ensures cells { Extended self.old.cells.now self.new.cells.now (block_of side self.old.rows self.old.columns i n) }
         ensures shape { (self.new.rows ≡ self.old.rows) × (self.new.columns ≡ self.old.columns) }
     {
@@ -169,7 +164,7 @@ impl<'a, T: Copy> Table<'a, T> {
     pub fn insert_lines(&mut self, side: Side, i: u32, n: u32, v: T)
         requires there { i ≤ lines_in side self.old.rows self.old.columns }
         requires few { lines_in side self.old.rows self.old.columns + n ≤ 4096 }
-        requires fits { cells_with side (lines_in side self.old.rows self.old.columns + n) self.old.rows self.old.columns ≤ length self.old.cells.now }
+        requires fits { cells_in side (lines_in side self.old.rows self.old.columns + n) self.old.rows self.old.columns ≤ length self.old.cells.now }
         ensures cells { Inserted self.old.cells.now self.new.cells.now (block_of side self.old.rows self.old.columns i n) v }
         ensures shape { (self.new.rows ≡ rows_with side (lines_in side self.old.rows self.old.columns + n) self.old.rows) × (self.new.columns ≡ columns_with side (lines_in side self.old.rows self.old.columns + n) self.old.columns) }
     {

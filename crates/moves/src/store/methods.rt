@@ -1,5 +1,5 @@
 ghost use Rattle.std.specs.Prelude.{◌≡◌, ◌+◌, ◌-◌, ◌<◌, ◌≤◌, [], ◌∷◌, ◌++◌, length, take, drop};
-ghost use Rattle.moves.specs.Stores.{BehindKept, items, room, stands};
+ghost use Rattle.moves.specs.Stores.{Kept, items, room, stands};
 
 use super::Store;
 
@@ -61,8 +61,7 @@ impl<'a, X: Copy> Store<'a, X> {
     pub fn push(&mut self, item: X)
         requires { length (items self.old) < room self.old }
         ensures more { items self.new ≡ items self.old ++ item ∷ [] }
-        ensures same { room self.new ≡ room self.old }
-        ensures behind { BehindKept self.old self.new }
+        ensures kept { Kept self.old self.new }
     {
         self.places[self.used] = item;
         self.used += 1;
@@ -71,8 +70,7 @@ impl<'a, X: Copy> Store<'a, X> {
     pub fn extend_from_slice(&mut self, list: &[X])
         requires { length (items self.old) + length list.now ≤ room self.old }
         ensures more { items self.new ≡ items self.old ++ list.now }
-        ensures same { room self.new ≡ room self.old }
-        ensures behind { BehindKept self.old self.new }
+        ensures kept { Kept self.old self.new }
     {
         let end = self.used + list.len();
         self.places[self.used..end].copy_from_slice(list);

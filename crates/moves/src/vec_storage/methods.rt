@@ -1,5 +1,5 @@
 ghost use Rattle.std.specs.Prelude.{◌≡◌, ◌+◌, ◌*◌, ◌^◌, ◌<◌, ◌≤◌, length, take};
-ghost use Rattle.moves.specs.Blocks.{block_of, cells_in, cells_with, columns_with, lines_in, rows_block, rows_with};
+ghost use Rattle.moves.specs.Blocks.{block_of, cells_in, columns_with, lines_in, rows_block, rows_with};
 
 use super::{Block, Table};
 use layout::side::Side;
@@ -71,7 +71,7 @@ impl<'a, T> Table<'a, T> {
     // Gives the side k lines; the cells are left to the caller.
     pub fn set_count(&mut self, side: Side, k: u32)
         requires few { k ≤ 4096 }
-        requires fits { cells_with side k self.old.rows self.old.columns ≤ length self.old.cells.now }
+        requires fits { cells_in side k self.old.rows self.old.columns ≤ length self.old.cells.now }
         ensures cells { self.new.cells ≡ self.old.cells }
         ensures shape { (self.new.rows ≡ rows_with side k self.old.rows) × (self.new.columns ≡ columns_with side k self.old.columns) }
     {

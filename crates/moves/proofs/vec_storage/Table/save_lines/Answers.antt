@@ -6,4 +6,4 @@ pub save_rows-requires : goal.save_rows-requires
 save_rows-requires g c =
     let a = c.args in
     let p = block_inside a.side a.self.now.rows a.self.now.columns a.i a.n _ _ c.block-b.ensures c.requires.there a.self.now.fits in
-    (omega (arith, p.0.0), omega (arith, p.0.1), omega (arith, p.1))
+    (p.0, omega (arith, p.1))
