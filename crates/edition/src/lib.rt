@@ -1,7 +1,7 @@
 // What acts on a caller's buffer through any layout: swaps, selections, triangles.
 #![tactic(auto)]
 
-ghost use Rattle.std.specs.Prelude.{◌≡◌, ℕ, ◌+◌, ◌*◌, ◌<◌, ◌≤◌, length, MatchResult};
+ghost use Rattle.std.specs.Prelude.{◌≡◌, ◌+◌, ◌*◌, ◌<◌, ◌≤◌, length, MatchResult};
 ghost use Rattle.layout.specs.Cells.{Cloned};
 ghost use Rattle.layout.specs.Checks.{Checked};
 ghost use Rattle.layout.specs.Lawful.{selected_rows};

@@ -1,5 +1,5 @@
 -- A call from its questions and its work: the same for every change of either side.
-use Rattle.std.proofs.Common.{◌≡◌, ℕ, ◌*◌, List, [], ◌∷◌, ◌++◌, map, reverse, length, take, Ok, Err, sym, refl, ap, ◌∙◌, ap₂, append-nil}
+use Rattle.std.proofs.Common.{◌≡◌, ℕ, ◌*◌, List, [], ◌∷◌, ◌++◌, map, reverse, length, take, Ok, Err, sym, refl, ap, ◌∙◌, subst, ap₂, append-nil}
 use Rattle.std.proofs.lemmas.List.{length-take-le}
 use Rattle.layout.specs.declared.refusal.Refusal.{Refusal}
 use Rattle.layout.specs.Refusals.{number_of}
@@ -9,7 +9,9 @@ use Rattle.model.specs.Journal.{Sheet, Room, Right, done, refused, first_no, ver
 use Rattle.model.proofs.Counting.{Counts}
 use Rattle.model.proofs.Reaching.{still_reached}
 use Rattle.model.proofs.Replays.{not_done}
-use Rattle.moves.specs.Stores.{items}
+use Rattle.moves.specs.declared.store.Store.{Store}
+use Rattle.moves.specs.Stores.{Grown, items}
+use Rattle.journal.specs.declared.parts.Entry.{Entry}
 use Rattle.journal.specs.declared.parts.Parts.{Parts}
 use Rattle.journal.specs.View.{view, table_of, entries_of, runs_of, saved_of, entry_of}
 use Rattle.journal.specs.Asking.{rooms}
@@ -43,7 +45,7 @@ module _ {A : Type 0} (p q : Parts A) (ch : Change A) (m n : ℕ) (rs : List (�
       same_sheet (view q) (after (view p) ch)
       (w.rows ∙ sym counts.rows) (w.columns ∙ sym counts.columns)
       (ap (λ k. take k q.table.cells.now) (ap₂ ◌*◌ w.rows w.columns) ∙ w.cells)
-      (ap (λ zs. map entry_of (reverse zs)) w.entries ∙ entry_more (items p.entries) (entry_for p w.note (length rs) l)
+      (ap (λ zs. map entry_of (reverse zs)) w.entries.more ∙ entry_more (items p.entries) (entry_for p w.note (length rs) l)
       ∙ ap (λ z. z ∷ entries_of p) same_entry)
       (w.runs ∙ ap (λ zs. runs_of p ++ zs) (sym counts.runs))
       w.saved
@@ -87,3 +89,7 @@ full p ch m n rs l counts e h f = refuses p ch e h (f ∙ verdict_is (view p) ch
 -- where no cell is lost, the saved cells stand
 pub nothing_lost : {A : Type 0} (p : Parts A) (ch : Change A) → lost_of (table_of p) ch ≡ [] → saved_of p ≡ saved_of p ++ lost_of (table_of p) ch
 nothing_lost p ch e = sym (append-nil (saved_of p)) ∙ ap (λ ks. saved_of p ++ ks) (sym e)
+
+-- the entry that was made is the one that was entered
+pub entered : {A : Type 0} (p : Parts A) (es : Store Entry) (e f : Entry) → e ≡ f → Grown p.entries es (e ∷ []) → Grown p.entries es (f ∷ [])
+entered p es e f same h = subst (λ z. Grown p.entries es (z ∷ [])) same h

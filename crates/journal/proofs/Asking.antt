@@ -1,5 +1,5 @@
 -- The questions, and what an accepted or a refused change answers.
-use Rattle.std.proofs.Common.{◌≡◌, ℕ, ◌+◌, ◌*◌, Bool, true, false, cond, ◌&&◌, ltb, leb, List, [], ◌∷◌, reverse, length, sym, ap, ◌∙◌}
+use Rattle.std.proofs.Common.{◌≡◌, ℕ, ◌+◌, ◌*◌, Bool, true, cond, ◌&&◌, ltb, leb, List, [], ◌∷◌, reverse, length, sym, ap, ◌∙◌}
 use Rattle.std.proofs.lemmas.List.{length-reverse, length-map}
 use Rattle.model.specs.Sheet.{Change, rows_of, columns_of}
 use Rattle.model.specs.Journal as model
@@ -9,9 +9,6 @@ use Rattle.journal.specs.declared.parts.Parts.{Parts}
 use Rattle.moves.specs.Stores.{items}
 use Rattle.journal.specs.View.{view, entries_of, runs_of, entry_of, run_of}
 use Rattle.journal.specs.Asking.{rooms}
-
-pub fails : (n : ℕ) (b : Bool) (qs : List (ℕ × Bool)) → b ≡ false → refused n ≡ first_no ((n, b) ∷ qs)
-fails n b qs e = ap (λ v. cond v (first_no qs) (refused n)) (sym e)
 
 pub passes : (n : ℕ) (b : Bool) (qs : List (ℕ × Bool)) (a : Answer) → b ≡ true → a ≡ first_no qs → a ≡ first_no ((n, b) ∷ qs)
 passes n b qs a e h = h ∙ ap (λ v. cond v (first_no qs) (refused n)) (sym e)

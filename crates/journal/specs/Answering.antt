@@ -1,7 +1,7 @@
 -- How a change on the buffers answers, and what its work leaves.
 use Rattle.std.specs.Prelude.{◌≡◌, ℕ, ◌*◌, List, [], ◌∷◌, ◌++◌, length, take, Result}
 use Rattle.layout.specs.declared.refusal.Refusal.{Refusal}
-use Rattle.moves.specs.Stores.{BehindKept, items}
+use Rattle.moves.specs.Stores.{Grown}
 use Rattle.journal.specs.declared.parts.Note.{Note}
 use Rattle.journal.specs.declared.parts.Parts.{Parts}
 use Rattle.journal.specs.View.{answered, note_of, room_of, runs_of, saved_of, table_of, view}
@@ -33,6 +33,5 @@ pub record Performed {A : Type 0} (p q : Parts A) (ch : Change A) (m n : ℕ) (r
   pub cells : take (m * n) q.table.cells.now ≡ (changed (table_of p) ch).cells
   pub saved : saved_of q ≡ saved_of p ++ lost_of (table_of p) ch
   pub runs : runs_of q ≡ runs_of p ++ rs
-  pub entries : items q.entries ≡ items p.entries ++ entry_for p note (length rs) l ∷ []
-  pub entries_behind : BehindKept p.entries q.entries
+  pub entries : Grown p.entries q.entries (entry_for p note (length rs) l ∷ [])
   pub room : room_of q ≡ room_of p

@@ -1,10 +1,9 @@
 -- The newest change taken back, whichever it was: what is left to show is that the former cells stand there again.
-use Rattle.std.proofs.Common.{◌≡◌, ℕ, ◌+◌, ◌-◌, ◌*◌, ◌<◌, ◌≤◌, [], ◌∷◌, map, reverse, length, get_or, take, Ok, Err, sym, refl, ap, ◌∙◌, ap₂, arith, length-append}
+use Rattle.std.proofs.Common.{◌≡◌, ℕ, ◌+◌, ◌-◌, ◌*◌, ◌<◌, ◌≤◌, [], ◌∷◌, map, reverse, length, get_or, take, Ok, sym, ap, ◌∙◌, ap₂, arith, length-append}
 use mathlib.Core.List.{is_set}
 use native.Mathlib.Bridge.{le_prop}
 use Rattle.std.proofs.Math.Seq.{take-length}
 use Rattle.std.proofs.lemmas.List.{take_more, take-map, reverse-append}
-use Rattle.layout.specs.declared.refusal.Refusal.{Refusal}
 use Rattle.moves.specs.declared.vec_storage.Table.{Table}
 use Rattle.moves.specs.Stores.{items}
 use Rattle.model.specs.Journal as model
@@ -18,7 +17,7 @@ use Rattle.journal.specs.View.{view, entries_of, runs_of, entry_of, run_of}
 use Rattle.journal.specs.Answering.{Answers, Held}
 use Rattle.journal.proofs.Answering.{same_room, same_sheet}
 use Rattle.journal.proofs.Asking.{entries_long, runs_long}
-use Rattle.leaving.specs.Leaving.{FormerFits, TakesBack, below}
+use Rattle.leaving.specs.Leaving.{Leaves, TakesBack, below}
 use Rattle.leaving.specs.Leaving as leaving
 
 -- the newest entry, as the code reads it
@@ -38,23 +37,11 @@ module _ {A : Type 0} (p : Parts A) (e : Entry) (held : Held p) (is : leaving.Ne
       let f : entries_of p ≡ model.entry_of w.former.table w.last ∷ w.former.entries = ap (λ (z : Sheet A). z.entries) w.is in
       cc (is, f)
 
-  -- so there is one
-  pub some_entry : 0 < length (items p.entries)
-  some_entry = let l = entries_long p in let f = ap length is in omega arith
-
   -- a bound that follows from whatever change came last
   pub by_change : (a b : ℕ) → (Newest (view p) → a ≤ b) → a ≤ b
   by_change a b f = by_newest (view p) (entry_of e) (below p) is held le_prop f
 
-  -- its runs and its saved cells are there
-  pub own_runs : e.runs ≤ length (items p.runs)
-  own_runs = by_change e.runs (length (items p.runs)) (λ w.
-      let t = w.former.table in
-      let f : e.runs ≡ length (model.runs_of t w.last) = ap (λ (z : model.Entry). z.runs_own) (its_entry w) in
-      let g = ap (λ (z : Sheet A). length z.runs) w.is in
-      let h = length-append w.former.runs (model.runs_of t w.last) in
-      let l = runs_long p in omega arith)
-
+  -- its saved cells are there
   pub own_cells : e.cells ≤ length (items p.saved)
   own_cells = by_change e.cells (length (items p.saved)) (λ w.
       let t = w.former.table in
@@ -63,9 +50,17 @@ module _ {A : Type 0} (p : Parts A) (e : Entry) (held : Held p) (is : leaving.Ne
       let h = length-append w.former.saved (lost_of t w.last) in
       omega arith)
 
-  -- the table before it has its shape, and had the same room
-  pub former_fits : FormerFits p e
-  former_fits = record {
+  -- so are its runs and itself; the table before it has its shape, and had the same room
+  pub leaves : Leaves p e
+  leaves = record {
+    entries = let l = entries_long p in let f = ap length is in omega arith;
+    runs = by_change e.runs (length (items p.runs)) (λ w.
+        let t = w.former.table in
+        let f : e.runs ≡ length (model.runs_of t w.last) = ap (λ (z : model.Entry). z.runs_own) (its_entry w) in
+        let g = ap (λ (z : Sheet A). length z.runs) w.is in
+        let h = length-append w.former.runs (model.runs_of t w.last) in
+        let l = runs_long p in omega arith);
+    saved = own_cells;
     rows = by_change e.rows 4096 (λ w. let f = ap (λ (z : model.Entry). z.rows_were) (its_entry w) in omega (arith, f, w.bounds.rows));
     columns = by_change e.columns 4096 (λ w. let f = ap (λ (z : model.Entry). z.columns_were) (its_entry w) in omega (arith, f, w.bounds.columns));
     cells = by_change (e.rows * e.columns) (length p.table.cells.now) (λ w.
@@ -101,21 +96,13 @@ module _ {A : Type 0} (p : Parts A) (e : Entry) (held : Held p) (is : leaving.Ne
           held = still_reached (view p) (view q) undo st held;
         }
 
--- with no entry there is nothing to take back
-pub nothing_back : {A : Type 0} (p : Parts A) → Held p → items p.entries ≡ [] → Answers p p undo (Err Refusal.NothingToUndo)
-nothing_back p held none =
-    let e : entries_of p ≡ [] = ap (λ zs. map entry_of (reverse zs)) none in
-    record {
-      which = sym (ap (λ qs. (taken_back (view p) qs).1) e);
-      state = sym (ap (λ qs. (taken_back (view p) qs).0) e);
-      same = λ k z. refl;
-      held = held;
-    }
-
 -- cells were moved, and then the entry leaves
 module _ {A : Type 0} (p : Parts A) (t : Table A) (e : Entry) (long : length t.cells.now ≡ length p.table.cells.now) where
   abbrev pub moved : Parts A
   moved = record { table = t; entries = p.entries; runs = p.runs; saved = p.saved }
+
+  pub moved_leaves : Leaves p e → Leaves moved e
+  moved_leaves w = record { entries = w.entries; runs = w.runs; saved = w.saved; rows = w.rows; columns = w.columns; cells = omega (arith, w.cells, long) }
 
   pub moved_back : (q : Parts A) → TakesBack moved q e → TakesBack p q e
   moved_back q w = record {

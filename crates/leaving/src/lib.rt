@@ -1,18 +1,16 @@
 // How entries leave the journal: the newest one with its runs and saved cells, or all of them.
 #![tactic(auto)]
 
-ghost use Rattle.std.specs.Prelude.{◌≡◌, ◌<◌, ◌≤◌, length, Ok};
-ghost use Rattle.moves.specs.Stores.{items};
+ghost use Rattle.std.specs.Prelude.{◌≡◌, Ok};
 ghost use Rattle.model.specs.Journal.{settle};
 ghost use Rattle.journal.specs.Answering.{Answers, Held};
-ghost use Rattle.leaving.specs.Leaving.{FormerFits, TakesBack};
+ghost use Rattle.leaving.specs.Leaving.{Leaves, TakesBack};
 
 use journal::parts::{Entry, Parts};
 
 // Brings back the shape before the entry, and frees the entry, its runs and its saved cells.
 pub fn leave<T>(p: &mut Parts<'_, T>, entry: Entry)
-    requires there { (0 < length (items p.old.entries)) × (entry.runs ≤ length (items p.old.runs)) × (entry.cells ≤ length (items p.old.saved)) }
-    requires fits { FormerFits p.old entry }
+    requires { Leaves p.old entry }
     ensures rest { TakesBack p.old p.new entry }
     ensures cells { p.new.table.cells ≡ p.old.table.cells }
 {

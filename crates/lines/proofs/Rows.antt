@@ -80,7 +80,7 @@ module _ {A : Type 0} (t : Table A) (right : Right t) (xs : List A) (lies : t.ce
               let j : ℕ = r - i in
               let e : i + j ≡ r = omega arith in
               let o : get_or (rows_of t ch) r (new 0) ≡ new j = ap (λ z. get_or (rows_of t ch) z (new 0)) (sym e) ∙ insert_new i n m there j (new 0) (omega arith) in
-              the_cell ys (r + c * (m + n)) v (omega arith) (λ d. ap (λ z. get_or ys (z + c * (m + n)) d) (sym e) ∙ h.filled j c d (omega arith) b)
+              the_cell ys (r + c * (m + n)) v (omega arith) (λ d. ap (λ z. get_or ys (z + c * (m + n)) d) (sym e) ∙ h.put j c d (omega arith) b)
               ∙ sym (ap (λ z. cell_of t ch z (get_or (columns_of t ch) c (new 0))) o)
           | inr l2 ↦
               let j : ℕ = r - n in

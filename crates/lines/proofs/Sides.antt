@@ -2,7 +2,7 @@
 use Rattle.std.proofs.Common.{◌≡◌, ℕ, ◌+◌, ◌-◌, ◌*◌, ◌≤◌, List, [], ◌++◌, length, take}
 use Rattle.layout.specs.declared.side.Side.{Side}
 use Rattle.layout.specs.declared.side.Side.TheVariants.{Rows, Columns}
-use Rattle.moves.specs.Blocks.{block_of, cells_in, cells_with, columns_with, lines_in, rows_with}
+use Rattle.moves.specs.Blocks.{block_of, cells_in, columns_with, lines_in, rows_with}
 use Rattle.moves.specs.Tables.{Compressed, Inserted, Saved}
 use Rattle.model.specs.Sheet.{insert_lines, remove_lines, Table, changed}
 use Rattle.model.specs.Journal.{Right, lost_of, one_run}
@@ -29,7 +29,7 @@ module _ {A : Type 0} (t : Table A) (i n : ℕ) where
 
     module _ (xs : List A) (lies : t.cells ≡ take (t.rows * t.columns) xs) where
       pub compressed_cells : (s : Side) → i + n ≤ lines_in s t.rows t.columns → (ys : List A) → Compressed xs ys (block_of s t.rows t.columns i n)
-          → take (cells_with s (lines_in s t.rows t.columns - n) t.rows t.columns) ys ≡ (changed t (remove_lines (side_of s) i n)).cells
+          → take (cells_in s (lines_in s t.rows t.columns - n) t.rows t.columns) ys ≡ (changed t (remove_lines (side_of s) i n)).cells
       compressed_cells Rows h = rows.compressed_cells t right xs lies i n h
       compressed_cells Columns h = columns.compressed_cells t right xs lies i n h
 
@@ -39,7 +39,7 @@ module _ {A : Type 0} (t : Table A) (i n : ℕ) where
       saved_cells Columns h = columns.saved_cells t right xs lies i n h
 
       pub inserted_cells : (s : Side) → i ≤ lines_in s t.rows t.columns → (v : A) (ys : List A)
-          → cells_with s (lines_in s t.rows t.columns + n) t.rows t.columns ≤ length xs → Inserted xs ys (block_of s t.rows t.columns i n) v
-          → take (cells_with s (lines_in s t.rows t.columns + n) t.rows t.columns) ys ≡ (changed t (insert_lines (side_of s) i n v)).cells
+          → cells_in s (lines_in s t.rows t.columns + n) t.rows t.columns ≤ length xs → Inserted xs ys (block_of s t.rows t.columns i n) v
+          → take (cells_in s (lines_in s t.rows t.columns + n) t.rows t.columns) ys ≡ (changed t (insert_lines (side_of s) i n v)).cells
       inserted_cells Rows h = rows.inserted_cells t right xs lies i n h
       inserted_cells Columns h = columns.inserted_cells t right xs lies i n h

@@ -1,5 +1,5 @@
 -- What a store holds.
-use Rattle.std.specs.Prelude.{◌≡◌, ℕ, ◌≤◌, List, length, take, slice_index_or}
+use Rattle.std.specs.Prelude.{◌≡◌, ℕ, ◌≤◌, List, ◌++◌, length, take, slice_index_or}
 use Rattle.moves.specs.declared.store.Store.{Store}
 
 abbrev pub items : {X : Type 0} → Store X → List X
@@ -17,3 +17,8 @@ stands s = s.places.now
 pub record Kept {X : Type 0} (s t : Store X) : Type 0 where
   pub room : room t ≡ room s
   pub behind : (k : ℕ) (d : X) → length (items t) ≤ k → slice_index_or (stands t) k d ≡ slice_index_or (stands s) k d
+
+-- t is s with xs behind its items
+pub record Grown {X : Type 0} (s t : Store X) (xs : List X) : Type 0 where
+  pub more : items t ≡ items s ++ xs
+  pub kept : Kept s t

@@ -3,7 +3,8 @@ ghost use Rattle.std.specs.Prelude.{◌*◌, ◌≤◌, length};
 mod methods;
 
 // A table at the start of a handed-in buffer, column by column: the cell of row r and column c is at r + c * rows.
-// A dense layout of its shape is lawful.
+// A dense layout of its shape is lawful. Rows and columns are two fields and no struct, here and in the calls above: they
+// come one by one, as in the source (`resize_mut`), and whoever takes them uses the one or the other.
 #[derive(Drop)]
 pub struct Table<'a, T> {
     pub cells: &'a mut [T],

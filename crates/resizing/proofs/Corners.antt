@@ -19,7 +19,7 @@ grown xs ys R C m v more h =
       stay = λ r c d a b k. ap (λ z. get_or ys (r + c * z) d) (sym e) ∙ h.upper r c d a k;
       come = λ r c d a b k.
           ap₂ (λ x z. get_or ys (x + c * z) d) (let f : r ≡ R + (r - R) = omega arith in f) (sym e)
-          ∙ h.filled (r - R) c d (omega arith) k;
+          ∙ h.put (r - R) c d (omega arith) k;
       rest = λ k d a. let f : C * (R + (m - R)) ≡ C * m = ap (λ z. C * z) e in h.rest k d (omega arith);
     }
 
@@ -44,7 +44,7 @@ module _ (R C m n b : ℕ) (stays : b ≡ min C n) where
           let j : ℕ = c - b in
           let inside = columns_lt j (n - b) m (omega arith) in
           let e : r + c * m ≡ b * m + (r + j * m) = omega (arith, columns_split b c m l) in
-          ap (λ z. get_or ys z d) e ∙ f.filled (r + j * m) d (omega arith)
+          ap (λ z. get_or ys z d) e ∙ f.put (r + j * m) d (omega arith)
 
 -- the cells below a corner of a rows and b columns, and then those behind it
 module _ (R C a b : ℕ) (rows : a ≤ R) (columns : b ≤ C) where

@@ -1,6 +1,6 @@
 // A table given m rows and n columns: what it loses is saved, and then the rest moves to its new places.
 ghost use Rattle.std.specs.Prelude.{◌≡◌, ◌+◌, ◌*◌, ◌≤◌, min, length};
-ghost use Rattle.moves.specs.Stores.{BehindKept, items, room};
+ghost use Rattle.moves.specs.Stores.{Kept, items, room};
 ghost use Rattle.resizing.specs.Resizing.{OutsideSaved, Resized, RowsResized, count_of_lost};
 
 use layout::side::Side;
@@ -60,8 +60,7 @@ pub fn resize_cells<T: Copy>(table: &mut Table<'_, T>, m: u32, n: u32, v: T)
 pub fn save_outside<T: Copy>(table: &Table<'_, T>, m: u32, n: u32, saved: &mut Store<'_, T>)
     requires { length (items saved.old) + count_of_lost table.now.rows table.now.columns m n ≤ room saved.old }
     ensures saved { OutsideSaved table.now.cells.now (items saved.old) (items saved.new) table.now.rows table.now.columns (min table.now.rows m) (min table.now.columns n) }
-    ensures same { room saved.new ≡ room saved.old }
-    ensures behind { BehindKept saved.old saved.new }
+    ensures kept { Kept saved.old saved.new }
 {
     let (upper, left) = (table.rows.min(m), table.columns.min(n));
     let below = Block {

@@ -1,7 +1,7 @@
 // Two rows or two columns of a sheet change places, on its buffers, and change back again.
 #![tactic(auto)]
 
-ghost use Rattle.std.specs.Prelude.{◌≡◌, ◌<◌, [], length, Ok};
+ghost use Rattle.std.specs.Prelude.{◌≡◌, ◌<◌, [], Ok};
 ghost use Rattle.layout.specs.Lawful.{dense};
 ghost use Rattle.moves.specs.Blocks.{lines_in};
 ghost use Rattle.model.specs.Sheet.{swap_lines};

@@ -55,7 +55,7 @@ module _ (m n R C b : ℕ) (both : b ≡ min C n) where
         let g : (n + c) * R ≡ b * R + c * R = columns_same (n + c) (b + c) R (omega arith) ∙ columns_sum b c R in
         let inside = columns_lt c (C - b) R (omega arith) in
         ap (λ z. get_or ys z d) (let z : r + (n + c) * R ≡ b * R + (r + c * R) = omega arith in z)
-        ∙ f.moved (r + c * R) d (omega arith)
+        ∙ f.put (r + c * R) d (omega arith)
         ∙ ap₂ (λ x z. get_or src (x * z + (r + c * R)) d) low both;
     rest = λ k d a.
         let all = columns_split b C R (omega arith) in

@@ -1,9 +1,8 @@
 use Rattle.std.proofs.Common.{[], ◌∷◌, ◌++◌, refl, ap, ◌∙◌, ap₂}
-use Rattle.moves.specs.Stores.{items}
 use Rattle.journal.specs.declared.parts.Note.TheVariants.{Removal}
 use Rattle.journal.specs.View.{table_of}
 use Rattle.journal.specs.Entering.{entry_for}
-use Rattle.journal.proofs.Answering.{right, same_room}
+use Rattle.journal.proofs.Answering.{entered, right, same_room}
 use Rattle.lines.proofs.Sides.{compressed_cells, saved_cells}
 use Rattle.lines.proofs.cut_lines.Goals as goal
 
@@ -21,7 +20,6 @@ returns g c =
       cells = compressed_cells (table_of p) a.i a.n (right p) p.table.cells.now refl a.side c.requires.there _ h.cells;
       saved = saved_cells (table_of p) a.i a.n (right p) p.table.cells.now refl a.side c.requires.there _ _ c.save_lines.ensures.saved;
       runs = c.note_run.ensures.noted;
-      entries = c.push.ensures.more ∙ ap (λ e. items p.entries ++ e ∷ []) (c.entry-entry.ensures ∙ ap₂ (entry_for p note) c.run_count.ensures c.cells_in-lost.ensures);
-      entries_behind = c.push.ensures.behind;
-      room = same_room _ _ _ _ _ _ _ _ h.cells.long c.push.ensures.same c.note_run.ensures.same c.save_lines.ensures.same;
+      entries = entered p _ _ _ (c.entry-entry.ensures ∙ ap₂ (entry_for p note) c.run_count.ensures c.cells_in-lost.ensures) c.push.ensures;
+      room = same_room _ _ _ _ _ _ _ _ h.cells.long c.push.ensures.kept.room c.note_run.ensures.kept.room c.save_lines.ensures.kept.room;
     }

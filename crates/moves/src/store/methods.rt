@@ -1,5 +1,5 @@
-ghost use Rattle.std.specs.Prelude.{◌≡◌, ◌+◌, ◌-◌, ◌<◌, ◌≤◌, [], ◌∷◌, ◌++◌, length, take, drop};
-ghost use Rattle.moves.specs.Stores.{Kept, items, room, stands};
+ghost use Rattle.std.specs.Prelude.{◌≡◌, ◌+◌, ◌-◌, ◌<◌, ◌≤◌, [], ◌∷◌, length, take, drop};
+ghost use Rattle.moves.specs.Stores.{Grown, items, room, stands};
 
 use super::Store;
 
@@ -60,8 +60,7 @@ impl<'a, X> Store<'a, X> {
 impl<'a, X: Copy> Store<'a, X> {
     pub fn push(&mut self, item: X)
         requires { length (items self.old) < room self.old }
-        ensures more { items self.new ≡ items self.old ++ item ∷ [] }
-        ensures kept { Kept self.old self.new }
+        ensures { Grown self.old self.new (item ∷ []) }
     {
         self.places[self.used] = item;
         self.used += 1;
@@ -69,8 +68,7 @@ impl<'a, X: Copy> Store<'a, X> {
 
     pub fn extend_from_slice(&mut self, list: &[X])
         requires { length (items self.old) + length list.now ≤ room self.old }
-        ensures more { items self.new ≡ items self.old ++ list.now }
-        ensures kept { Kept self.old self.new }
+        ensures { Grown self.old self.new list.now }
     {
         let end = self.used + list.len();
         self.places[self.used..end].copy_from_slice(list);

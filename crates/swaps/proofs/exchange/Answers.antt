@@ -1,9 +1,8 @@
 use Rattle.std.proofs.Common.{[], ◌∷◌, ◌++◌, sym, refl, ap, ◌∙◌, append-nil}
-use Rattle.moves.specs.Stores.{items}
 use Rattle.journal.specs.declared.parts.Note.TheVariants.{Exchange}
 use Rattle.model.specs.Sheet.{swap_lines}
 use Rattle.journal.specs.View.{side_of, table_of}
-use Rattle.journal.proofs.Answering.{nothing_lost, right, same_room}
+use Rattle.journal.proofs.Answering.{entered, nothing_lost, right, same_room}
 use Rattle.swaps.proofs.Exchanging.{exchanged_cells, lost, swapped_long}
 use Rattle.swaps.proofs.exchange.Goals as goal
 
@@ -21,7 +20,6 @@ returns g c =
       cells = exchanged_cells a.side (table_of p) a.i a.j there.0 there.1 (right p) p.table.cells.now _ h.cells refl;
       saved = nothing_lost p (swap_lines (side_of a.side) a.i a.j) (lost a.side (table_of p) a.i a.j there.0 there.1);
       runs = sym (append-nil _);
-      entries_behind = c.push.ensures.behind;
-      entries = c.push.ensures.more ∙ ap (λ e. items p.entries ++ e ∷ []) c.entry-entry.ensures;
-      room = same_room _ _ _ _ _ _ _ _ (swapped_long a.side _ _ _ _ _ h.cells) c.push.ensures.same refl refl;
+      entries = entered p _ _ _ c.entry-entry.ensures c.push.ensures;
+      room = same_room _ _ _ _ _ _ _ _ (swapped_long a.side _ _ _ _ _ h.cells) c.push.ensures.kept.room refl refl;
     }

@@ -1,7 +1,7 @@
 use Rattle.std.proofs.Common.{◌≡◌, sym, ap, subst, arith}
 use base.Stored.{Coded-set}
 use Rattle.layout.specs.Lawful.{dense}
-use Rattle.leaving.proofs.Undoing.{former_fits, moved_back, own_cells, own_runs, some_entry, undone}
+use Rattle.leaving.proofs.Undoing.{leaves, moved_back, moved_leaves, undone}
 use Rattle.swaps.specs.Exchange.{Swapped}
 use Rattle.swaps.proofs.Exchanging.{swapped_long}
 use Rattle.swaps.proofs.Back.{lines_there, swapped_back}
@@ -16,12 +16,7 @@ pub leave-requires : goal.leave-requires
 leave-requires g c =
     let p = c.args.p.now in
     let e = c.args.entry in
-    let r = c.requires in
-    let f = former_fits p e r.held r.newest in
-    record {
-      there = (some_entry p e r.held r.newest, own_runs p e r.held r.newest, own_cells p e r.held r.newest);
-      fits = record { rows = f.rows; columns = f.columns; cells = omega (arith, f.cells, swapped_long c.args.side _ _ _ _ _ c.swap_cells.ensures.cells) };
-    }
+    moved_leaves p c.swap_cells.new.table e (swapped_long c.args.side _ _ _ _ _ c.swap_cells.ensures.cells) (leaves p e c.requires.held c.requires.newest)
 
 pub returns : goal.returns
 returns g c =

@@ -2,7 +2,7 @@ use Rattle.std.proofs.Common.{List, MutBor, sym, ap, subst, arith}
 use base.Stored.{Coded-set}
 use Rattle.moves.specs.Blocks.{block_of}
 use Rattle.moves.specs.Tables.{Compressed}
-use Rattle.leaving.proofs.Undoing.{former_fits, moved_back, own_cells, own_runs, some_entry, undone}
+use Rattle.leaving.proofs.Undoing.{leaves, moved_back, moved_leaves, undone}
 use Rattle.undo_insert.proofs.Undoing.{lines_there, lines_back}
 use Rattle.undo_insert.proofs.undo_insert.Goals as goal
 
@@ -14,12 +14,7 @@ pub leave-requires : goal.leave-requires
 leave-requires g c =
     let p = c.args.p.now in
     let e = c.args.entry in
-    let r = c.requires in
-    let f = former_fits p e r.held r.newest in
-    record {
-      there = (some_entry p e r.held r.newest, own_runs p e r.held r.newest, own_cells p e r.held r.newest);
-      fits = record { rows = f.rows; columns = f.columns; cells = omega (arith, f.cells, c.remove_lines.ensures.cells.long) };
-    }
+    moved_leaves p c.remove_lines.new.self e c.remove_lines.ensures.cells.long (leaves p e c.requires.held c.requires.newest)
 
 pub returns : goal.returns
 returns g c =

@@ -1,6 +1,6 @@
 use Rattle.std.proofs.Common.{◌*◌, take, ap, ◌∙◌, arith}
 use base.Stored.{Coded-set}
-use Rattle.leaving.proofs.Undoing.{former_fits, moved_back, own_cells, own_runs, some_entry, undone}
+use Rattle.leaving.proofs.Undoing.{leaves, moved_back, moved_leaves, own_cells, undone}
 use Rattle.undo_resize.proofs.Taking.{all_there, table_back}
 use Rattle.undo_resize.proofs.undo_resize.Goals as goal
 
@@ -20,19 +20,14 @@ pub newest-own-requires : goal.newest-own-requires
 newest-own-requires g c = own_cells c.args.p.now c.args.entry c.requires.held c.requires.newest
 
 pub bring_back_shape-requires-clause-fits : goal.bring_back_shape-requires-clause-fits
-bring_back_shape-requires-clause-fits g c = (former_fits c.args.p.now c.args.entry c.requires.held c.requires.newest).cells
+bring_back_shape-requires-clause-fits g c = (leaves c.args.p.now c.args.entry c.requires.held c.requires.newest).cells
 
 pub bring_back_shape-requires-clause-there : goal.bring_back_shape-requires-clause-there
 bring_back_shape-requires-clause-there g c =
     all_there c.args.p.now c.args.entry c.requires.held c.requires.newest c.requires.noted _ c.newest-own.ensures
 
-pub leave-requires-clause-there : goal.leave-requires-clause-there
-leave-requires-clause-there g c =
+pub leave-requires : goal.leave-requires
+leave-requires g c =
     let p = c.args.p.now in
     let e = c.args.entry in
-    (some_entry p e c.requires.held c.requires.newest, own_runs p e c.requires.held c.requires.newest, own_cells p e c.requires.held c.requires.newest)
-
-pub leave-requires-clause-fits : goal.leave-requires-clause-fits
-leave-requires-clause-fits g c =
-    let f = former_fits c.args.p.now c.args.entry c.requires.held c.requires.newest in
-    record { rows = f.rows; columns = f.columns; cells = omega (arith, f.cells, c.bring_back_shape.ensures.cells.long) }
+    moved_leaves p c.bring_back_shape.new.table e c.bring_back_shape.ensures.cells.long (leaves p e c.requires.held c.requires.newest)

@@ -35,5 +35,5 @@ loop-at-preserved c =
       begins = turned marks (at + n) m end s;
       few = λ h. let gap = gap_grows marks at n here begins t m s h in omega arith;
       found = run_written marks at n m (items c.loop-at.runs) (items c.push.new.self) _ here begins t s c.push.ensures.more c.loop-at.invariant.found;
-      same = c.push.ensures.same ∙ c.loop-at.invariant.same;
+      same = c.push.ensures.kept.room ∙ c.loop-at.invariant.same;
     }

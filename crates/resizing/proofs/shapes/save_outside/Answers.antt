@@ -11,7 +11,7 @@ save_rows-requires g c =
     let a = c.min-upper.result in
     let b = c.min-left.result in
     let e = ap₂ ◌*◌ c.min-upper.ensures c.min-left.ensures in
-    (omega arith, omega (arith, columns_wider t.rows b t.columns (omega arith), t.fits), omega (arith, e, outside t.rows t.columns a b (omega arith) (omega arith)))
+    ((omega arith, omega (arith, columns_wider t.rows b t.columns (omega arith), t.fits)), omega (arith, e, outside t.rows t.columns a b (omega arith) (omega arith)))
 
 pub save_lines-requires-clause-fits : goal.save_lines-requires-clause-fits
 save_lines-requires-clause-fits g c =
@@ -19,7 +19,7 @@ save_lines-requires-clause-fits g c =
     let a = c.min-upper.result in
     let b = c.min-left.result in
     let e = ap₂ ◌*◌ c.min-upper.ensures c.min-left.ensures in
-    omega (arith, e, c.save_rows.ensures.saved.long, c.save_rows.ensures.same, mul_comm b (t.rows - a), outside t.rows t.columns a b (omega arith) (omega arith))
+    omega (arith, e, c.save_rows.ensures.saved.long, c.save_rows.ensures.kept.room, mul_comm b (t.rows - a), outside t.rows t.columns a b (omega arith) (omega arith))
 
 pub returns-clause-saved : goal.returns-clause-saved
 returns-clause-saved g c =
@@ -27,5 +27,5 @@ returns-clause-saved g c =
     rw (sym c.min-upper.ensures, sym c.min-left.ensures)
     (outside_saved t.rows t.columns c.min-upper.result c.min-left.result (omega arith) (omega arith) _ _ _ _ c.save_rows.ensures.saved c.save_lines.ensures.saved)
 
-pub returns-clause-behind : goal.returns-clause-behind
-returns-clause-behind g c = kept_on c.args.saved.now c.save_rows.new.saved c.save_lines.new.saved c.save_rows.ensures.behind (omega (arith, c.save_lines.ensures.saved.long)) c.save_lines.ensures.behind
+pub returns-clause-kept : goal.returns-clause-kept
+returns-clause-kept g c = kept_on c.args.saved.now c.save_rows.new.saved c.save_lines.new.saved c.save_rows.ensures.kept (omega (arith, c.save_lines.ensures.saved.long)) c.save_lines.ensures.kept
