@@ -4,7 +4,7 @@ use Rattle.std.proofs.lemmas.Nat.{mul-add-lt}
 use Rattle.std.proofs.lemmas.Bool.{cases_lt}
 use Rattle.layout.specs.declared.side.Side.{Side}
 use Rattle.layout.specs.declared.side.Side.TheVariants.{Rows, Columns}
-use Rattle.moves.specs.Blocks.{block_of, cells_with, columns_with, lines_in, rows_block, rows_with}
+use Rattle.moves.specs.Blocks.{block_of, cells_in, columns_with, lines_in, rows_block, rows_with}
 use Rattle.moves.specs.Tables.{Extended}
 use Rattle.moves.proofs.Flat.{extended_before, extended_behind}
 use Rattle.moves.proofs.Slides.{at}
@@ -25,7 +25,7 @@ module _ {X : Type 0} (xs ys : List X) (m columns i n : ℕ) (vs : List X) (v : 
 
   taken_new : (k : ℕ) (d : X) → k < n * m → get_or ys (i * m + k) d ≡ get_or vs k v
   taken_new k d l =
-      at ys d (i * m + k) (i * m + k + 0 * (m * columns)) (omega (arith, zero-mul (m * columns))) ∙ h.taken k 0 d l (lit< tt)
+      at ys d (i * m + k) (i * m + k + 0 * (m * columns)) (omega (arith, zero-mul (m * columns))) ∙ h.put k 0 d l (lit< tt)
       ∙ at vs v (k + 0 * (n * m)) k (omega (arith, zero-mul (n * m)))
 
   taken_behind : (k : ℕ) (d : X) → i * m + n * m ≤ k → k < m * columns → get_or ys k d ≡ get_or xs k d
@@ -57,7 +57,7 @@ module _ {A : Type 0} (t : Table A) (right : Right t) (xs : List A) (lies : t.ce
               let j : ℕ = r - i in
               let e : i + j ≡ r = omega arith in
               let o : get_or (rows_of t ch) r (new 0) ≡ new j = ap (λ z. get_or (rows_of t ch) z (new 0)) (sym e) ∙ insert_new i n m there j (new 0) (omega arith) in
-              the_cell zs (r + c * (m + n)) (get_or vs (j + c * n) v) (omega arith) (λ d. ap (λ z. get_or zs (z + c * (m + n)) d) (sym e) ∙ w.taken j c d (omega arith) b)
+              the_cell zs (r + c * (m + n)) (get_or vs (j + c * n) v) (omega arith) (λ d. ap (λ z. get_or zs (z + c * (m + n)) d) (sym e) ∙ w.put j c d (omega arith) b)
               ∙ sym (ap₂ (cell_of t ch) o (keep_at C c (new 0) b))
           | inr l2 ↦
               let j : ℕ = r - n in
@@ -108,9 +108,9 @@ module _ {A : Type 0} (t : Table A) (right : Right t) (xs : List A) (lies : t.ce
         ]
       ])
 
-  pub gap_cells : (s : Side) → i ≤ lines_in s t.rows t.columns → (ys zs : List A) → cells_with s (lines_in s t.rows t.columns + n) t.rows t.columns ≤ length xs
+  pub gap_cells : (s : Side) → i ≤ lines_in s t.rows t.columns → (ys zs : List A) → cells_in s (lines_in s t.rows t.columns + n) t.rows t.columns ≤ length xs
       → Extended xs ys (block_of s t.rows t.columns i n)
       → RowsTaken ys zs (block_of s (rows_with s (lines_in s t.rows t.columns + n) t.rows) (columns_with s (lines_in s t.rows t.columns + n) t.columns) i n) vs v
-      → take (cells_with s (lines_in s t.rows t.columns + n) t.rows t.columns) zs ≡ (changed t (fill_lines (side_of s) i n vs v)).cells
+      → take (cells_in s (lines_in s t.rows t.columns + n) t.rows t.columns) zs ≡ (changed t (fill_lines (side_of s) i n vs v)).cells
   gap_cells Rows = row_cells
   gap_cells Columns = column_cells

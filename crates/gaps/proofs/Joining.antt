@@ -1,20 +1,21 @@
 -- A gap opened and then filled is one change.
-use Rattle.std.proofs.Common.{◌≡◌, ℕ, ◌+◌, ◌*◌, true, false, List, [], ◌∷◌, ◌++◌, map, is_err, Ok, Err, Result, sym, refl, ap, ◌∙◌, subst, ap₂, arith, append-nil}
+use Rattle.std.proofs.Common.{◌≡◌, ℕ, ◌+◌, ◌*◌, true, false, List, [], ◌∷◌, map, is_err, Ok, Err, Result, sym, refl, ap, ◌∙◌, subst, ap₂, arith, append-nil}
 use mathlib.Core.Logic.{∥∥₁_elim, ∥∥₁_prop}
 use native.Mathlib.Bridge.{le_prop}
 use Rattle.std.proofs.lemmas.Bool.{both_ways}
 use Rattle.layout.specs.declared.refusal.Refusal.{Refusal}
 use Rattle.layout.specs.declared.side.Side.{Side}
 use Rattle.moves.specs.Blocks.{block_of, columns_with, lines_in, rows_with}
-use Rattle.moves.specs.Stores.{BehindKept, items, room}
+use Rattle.moves.specs.Stores.{Grown, items, room}
 use Rattle.model.specs.Sheet.{Change, fill_lines}
 use Rattle.model.specs.Journal.{change}
 use Rattle.journal.specs.declared.parts.Note.{Note}
 use Rattle.journal.specs.declared.parts.Parts.{Parts}
 use Rattle.journal.specs.View.{run_of, side_of, table_of, view}
+use Rattle.journal.specs.Entering.{entry_for}
 use Rattle.journal.specs.Answering.{Answers, Held, Performed}
 use Rattle.journal.proofs.Asking.{verdict_is}
-use Rattle.journal.proofs.Answering.{accepted, nothing_lost, refuses, right, same_room}
+use Rattle.journal.proofs.Answering.{accepted, entered, nothing_lost, refuses, right, same_room}
 use Rattle.gaps.specs.Taken.{RowsTaken}
 use Rattle.gaps.specs.Gaps.{Roomy, Parted, Left, Filled, Fills}
 use Rattle.gaps.proofs.Questions.{gap_counts, gap_lost}
@@ -22,10 +23,10 @@ use Rattle.gaps.proofs.Cells.{gap_cells}
 
 module _ {A : Type 0} (p q q' : Parts A) (side : Side) (i n : ℕ) (vs : List A) (v : A) (o : Parted p q side i n) (f : Filled q q' side i n vs v) where
   filled_rows : q'.table.rows ≡ rows_with side (lines_in side p.table.rows p.table.columns + n) p.table.rows
-  filled_rows = f.rows ∙ (λ j. rows_with side (lines_in side (o.rows j) (o.columns j) + n) (o.rows j))
+  filled_rows = f.shape.0 ∙ (λ j. rows_with side (lines_in side (o.shape.0 j) (o.shape.1 j) + n) (o.shape.0 j))
 
   filled_columns : q'.table.columns ≡ columns_with side (lines_in side p.table.rows p.table.columns + n) p.table.columns
-  filled_columns = f.columns ∙ (λ j. columns_with side (lines_in side (o.rows j) (o.columns j) + n) (o.columns j))
+  filled_columns = f.shape.1 ∙ (λ j. columns_with side (lines_in side (o.shape.0 j) (o.shape.1 j) + n) (o.shape.1 j))
 
   filled_performs : Performed p q' (fill_lines (side_of side) i n vs v) (rows_with side (lines_in side p.table.rows p.table.columns + n) p.table.rows) (columns_with side (lines_in side p.table.rows p.table.columns + n) p.table.columns) [] 0
   filled_performs =
@@ -39,9 +40,8 @@ module _ {A : Type 0} (p q q' : Parts A) (side : Side) (i n : ℕ) (vs : List A)
             (subst (λ b. RowsTaken q.table.cells.now q'.table.cells.now b vs v) (λ j. block_of side (filled_rows j) (filled_columns j) i n) f.cells);
         saved = ap (λ s. items s) (f.saved ∙ o.saved) ∙ nothing_lost p (fill_lines (side_of side) i n vs v) (gap_lost (table_of p) i n vs v side o.room.there);
         runs = ap (λ s. map run_of (items s)) (f.runs ∙ o.runs) ∙ sym (append-nil _);
-        entries_behind = subst (λ s. BehindKept s q'.entries) o.entries f.entries_behind;
-        entries = f.entries ∙ (λ j. items (o.entries j) ++ record { note = note; rows = o.rows j; columns = o.columns j; runs = 0; cells = 0 } ∷ []);
-        room = same_room _ _ _ _ _ _ _ _ (f.cells.long ∙ o.cells.long) (f.room ∙ ap (λ s. room s) o.entries) (ap (λ s. room s) (f.runs ∙ o.runs)) (ap (λ s. room s) (f.saved ∙ o.saved));
+        entries = entered p _ _ _ (λ j. record { note = note; rows = o.shape.0 j; columns = o.shape.1 j; runs = 0; cells = 0 }) (subst (λ s. Grown s q'.entries (entry_for q note 0 0 ∷ [])) o.entries f.entries);
+        room = same_room _ _ _ _ _ _ _ _ (f.cells.long ∙ o.cells.long) (f.entries.kept.room ∙ ap (λ s. room s) o.entries) (ap (λ s. room s) (f.runs ∙ o.runs)) (ap (λ s. room s) (f.saved ∙ o.saved));
       }
 
 -- filling an accepted gap
@@ -64,9 +64,9 @@ fills_none {A} q side i n (Err e) vs v no_gap p gap =
 parted_roomy : {A : Type 0} (p q : Parts A) (side : Side) (i n : ℕ) → Parted p q side i n → Roomy q side i n
 parted_roomy p q side i n o =
     let fits = o.room.fits in
-    let lines : lines_in side q.table.rows q.table.columns ≡ lines_in side p.table.rows p.table.columns = ap₂ (lines_in side) o.rows o.columns in
-    let rows = ap₂ (λ (k m : ℕ). rows_with side (k + n) m) lines o.rows in
-    let columns = ap₂ (λ (k m : ℕ). columns_with side (k + n) m) lines o.columns in
+    let lines : lines_in side q.table.rows q.table.columns ≡ lines_in side p.table.rows p.table.columns = ap₂ (lines_in side) o.shape.0 o.shape.1 in
+    let rows = ap₂ (λ (k m : ℕ). rows_with side (k + n) m) lines o.shape.0 in
+    let columns = ap₂ (λ (k m : ℕ). columns_with side (k + n) m) lines o.shape.1 in
     record {
       there = omega (arith, lines, o.room.there);
       fits = record {

@@ -1,32 +1,30 @@
 -- A gap in the buffers of a sheet: how it is opened, and how it is filled.
-use Rattle.std.specs.Prelude.{◌≡◌, ℕ, ◌+◌, ◌≤◌, List, [], ◌∷◌, ◌++◌, Ok, Err, Result}
+use Rattle.std.specs.Prelude.{◌≡◌, ℕ, ◌+◌, ◌≤◌, List, [], ◌∷◌, Ok, Err, Result}
 use Rattle.layout.specs.declared.refusal.Refusal.{Refusal}
 use Rattle.layout.specs.declared.side.Side.{Side}
-use Rattle.moves.specs.Blocks.{block_of, columns_with, lines_in, rows_with}
-use Rattle.moves.specs.Stores.{BehindKept, items, room}
+use Rattle.moves.specs.Blocks.{SameShape, Shaped, block_in, count_of}
+use Rattle.moves.specs.Stores.{Grown}
 use Rattle.moves.specs.Tables.{Extended}
 use Rattle.model.specs.Sheet.{fill_lines}
 use Rattle.model.specs.Journal.{change, verdict}
 use Rattle.journal.specs.declared.parts.Note.{Note}
 use Rattle.journal.specs.declared.parts.Parts.{Parts}
 use Rattle.journal.specs.View.{answered, side_of, view}
-use Rattle.journal.specs.Asking.{Fits}
+use Rattle.journal.specs.Asking.{FitsWith}
 use Rattle.journal.specs.Entering.{entry_for}
 use Rattle.journal.specs.Answering.{Answers, Held}
 use Rattle.gaps.specs.Taken.{RowsTaken}
 
 -- n lines can come in at i: the place is there, and so is the room for their cells and for the entry
 pub record Roomy {A : Type 0} (p : Parts A) (side : Side) (i n : ℕ) : Type 0 where
-  pub there : i ≤ lines_in side p.table.rows p.table.columns
-  pub fits : Fits p (rows_with side (lines_in side p.table.rows p.table.columns + n) p.table.rows) (columns_with side (lines_in side p.table.rows p.table.columns + n) p.table.columns) 0 0
+  pub there : i ≤ count_of p.table side
+  pub fits : FitsWith p side (count_of p.table side + n) 0 0
 
--- q is p with its cells moved apart for n lines at i; what stands between them is not spoken of but in the first gap,
--- where it is what stood there
+-- q is p with its cells moved apart for n lines at i, between which stands what stood there
 pub record Parted {A : Type 0} (p q : Parts A) (side : Side) (i n : ℕ) : Type 0 where
   pub room : Roomy p side i n
-  pub cells : Extended p.table.cells.now q.table.cells.now (block_of side p.table.rows p.table.columns i n)
-  pub rows : q.table.rows ≡ p.table.rows
-  pub columns : q.table.columns ≡ p.table.columns
+  pub cells : Extended p.table.cells.now q.table.cells.now (block_in p.table side i n)
+  pub shape : SameShape p.table q.table
   pub entries : q.entries ≡ p.entries
   pub runs : q.runs ≡ p.runs
   pub saved : q.saved ≡ p.saved
@@ -53,12 +51,9 @@ pub record Left {A : Type 0} (q : Parts A) (side : Side) (i n : ℕ) (r : Result
 
 -- q is p with the lines counted, the list, and v behind it, in the gap's cells, and the entry made
 pub record Filled {A : Type 0} (p q : Parts A) (side : Side) (i n : ℕ) (vs : List A) (v : A) : Type 0 where
-  pub rows : q.table.rows ≡ rows_with side (lines_in side p.table.rows p.table.columns + n) p.table.rows
-  pub columns : q.table.columns ≡ columns_with side (lines_in side p.table.rows p.table.columns + n) p.table.columns
-  pub cells : RowsTaken p.table.cells.now q.table.cells.now (block_of side q.table.rows q.table.columns i n) vs v
-  pub entries : items q.entries ≡ items p.entries ++ entry_for p (Note.Gap side i n) 0 0 ∷ []
-  pub entries_behind : BehindKept p.entries q.entries
-  pub room : room q.entries ≡ room p.entries
+  pub shape : Shaped p.table q.table side (count_of p.table side + n)
+  pub cells : RowsTaken p.table.cells.now q.table.cells.now (block_in q.table side i n) vs v
+  pub entries : Grown p.entries q.entries (entry_for p (Note.Gap side i n) 0 0 ∷ [])
   pub runs : q.runs ≡ p.runs
   pub saved : q.saved ≡ p.saved
 

@@ -1,18 +1,13 @@
 -- Cells that take a list, and a value where the list is used up.
-use Rattle.std.specs.Prelude.{◌≡◌, ℕ, ◌+◌, ◌*◌, ◌<◌, ◌≤◌, List, length, slice_index_or}
+use Rattle.std.specs.Prelude.{ℕ, ◌+◌, ◌*◌, List, slice_index_or}
 use Rattle.moves.specs.declared.vec_storage.Block.{Block}
+use Rattle.moves.specs.Slides.{Written}
+use Rattle.moves.specs.Tables.{RowsWritten}
 
 -- ys is xs with the list, and v behind it, in the `len` cells at `from`
-pub record Taken {X : Type 0} (xs ys : List X) (from len : ℕ) (vs : List X) (v : X) : Type 0 where
-  pub long : length ys ≡ length xs
-  pub taken : (k : ℕ) (d : X) → k < len → slice_index_or ys (from + k) d ≡ slice_index_or vs k v
-  pub below : (k : ℕ) (d : X) → k < from → slice_index_or ys k d ≡ slice_index_or xs k d
-  pub above : (k : ℕ) (d : X) → from + len ≤ k → slice_index_or ys k d ≡ slice_index_or xs k d
+abbrev pub Taken : {X : Type 0} (xs ys : List X) (from len : ℕ) → List X → X → Type 0
+Taken xs ys from len vs v = Written xs ys from len (λ k d. slice_index_or vs k v)
 
 -- ys is xs with the list, and v behind it, in the block's rows of its table, column by column
-pub record RowsTaken {X : Type 0} (xs ys : List X) (b : Block) (vs : List X) (v : X) : Type 0 where
-  pub long : length ys ≡ length xs
-  pub taken : (r c : ℕ) (d : X) → r < b.count → c < b.columns → slice_index_or ys (b.first + r + c * b.rows) d ≡ slice_index_or vs (r + c * b.count) v
-  pub upper : (r c : ℕ) (d : X) → r < b.first → slice_index_or ys (r + c * b.rows) d ≡ slice_index_or xs (r + c * b.rows) d
-  pub lower : (r c : ℕ) (d : X) → b.first + b.count ≤ r → r < b.rows → slice_index_or ys (r + c * b.rows) d ≡ slice_index_or xs (r + c * b.rows) d
-  pub rest : (k : ℕ) (d : X) → b.columns * b.rows ≤ k → slice_index_or ys k d ≡ slice_index_or xs k d
+abbrev pub RowsTaken : {X : Type 0} (xs ys : List X) → Block → List X → X → Type 0
+RowsTaken xs ys b vs v = RowsWritten xs ys b (λ r c d. slice_index_or vs (r + c * b.count) v)

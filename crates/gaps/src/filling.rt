@@ -1,5 +1,5 @@
 ghost use Rattle.std.specs.Prelude.{◌≡◌, ◌+◌, ◌≤◌, length};
-ghost use Rattle.moves.specs.Blocks.{block_of, cells_with, columns_with, lines_in, rows_with};
+ghost use Rattle.moves.specs.Blocks.{Shaped, block_in, cells_of, count_of};
 ghost use Rattle.gaps.specs.Taken.{RowsTaken};
 ghost use Rattle.gaps.specs.Gaps.{Filled, Roomy};
 
@@ -10,11 +10,11 @@ use moves::vec_storage::Table;
 
 // Counts n lines more, and writes the list, and v behind it, into those at i.
 fn take_lines<T: Copy>(table: &mut Table<'_, T>, side: Side, i: u32, n: u32, list: &[T], v: T)
-    requires there { i ≤ lines_in side table.old.rows table.old.columns }
-    requires few { lines_in side table.old.rows table.old.columns + n ≤ 4096 }
-    requires fits { cells_with side (lines_in side table.old.rows table.old.columns + n) table.old.rows table.old.columns ≤ length table.old.cells.now }
-    ensures cells { RowsTaken table.old.cells.now table.new.cells.now (block_of side table.new.rows table.new.columns i n) list.now v }
-    ensures shape { (table.new.rows ≡ rows_with side (lines_in side table.old.rows table.old.columns + n) table.old.rows) × (table.new.columns ≡ columns_with side (lines_in side table.old.rows table.old.columns + n) table.old.columns) }
+    requires there { i ≤ count_of table.old side }
+    requires few { count_of table.old side + n ≤ 4096 }
+    requires fits { cells_of table.old side (count_of table.old side + n) ≤ length table.old.cells.now }
+    ensures cells { RowsTaken table.old.cells.now table.new.cells.now (block_in table.new side i n) list.now v }
+    ensures shape { Shaped table.old table.new side (count_of table.old side + n) }
 {
     let grown = table.count(side) + n;
     table.set_count(side, grown);

@@ -5,7 +5,7 @@ ghost use Rattle.journal.specs.Answering.{Held};
 ghost use Rattle.gaps.specs.Gaps.{Asked, Gap, Roomy};
 
 use journal::parts::Parts;
-use journal::questions::ask;
+use journal::questions::ask_with;
 use layout::refusal::Refusal;
 use layout::side::Side;
 
@@ -18,8 +18,7 @@ pub fn ask_gap<T>(p: &Parts<'_, T>, side: Side, i: u32, n: u32) -> Result<(), Re
     if i > count {
         return Err(Refusal::NoSuchLine);
     }
-    let (rows, columns) = p.table.shape_with(side, count as usize + n as usize);
-    ask(p, rows, columns, 0, 0)
+    ask_with(p, side, count as usize + n as usize, 0, 0)
 }
 
 // Opens a gap of n lines before line i, or, where the check refuses, an empty one.

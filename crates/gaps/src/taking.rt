@@ -1,6 +1,7 @@
 // Blocks of cells that take a list, and a value where the list is used up. The two come one by one, as in the call that
 // hands them on: a struct of them would be made only to be taken apart.
-ghost use Rattle.std.specs.Prelude.{◌+◌, ◌*◌, ◌≤◌, length};
+ghost use Rattle.std.specs.Prelude.{◌+◌, ◌≤◌, length};
+ghost use Rattle.moves.specs.Blocks.{Inside};
 ghost use Rattle.gaps.specs.Taken.{RowsTaken, Taken};
 
 use moves::blocks::{copy_block, fill_range};
@@ -18,7 +19,7 @@ fn take_block<T: Copy>(cells: &mut [T], from: usize, len: usize, list: &[T], v: 
 
 // Writes the list, and v behind it, into the rows, column by column.
 pub(crate) fn take_rows<T: Copy>(cells: &mut [T], b: Block, list: &[T], v: T)
-    requires { (b.first + b.count ≤ b.rows) × (b.rows * b.columns ≤ length cells.old) }
+    requires { Inside b (length cells.old) }
     ensures { RowsTaken cells.old cells.new b list.now v }
 {
     for c in 0..b.columns {

@@ -1,14 +1,16 @@
 -- The questions, and what an accepted or a refused change answers.
-use Rattle.std.proofs.Common.{◌≡◌, ℕ, ◌+◌, ◌*◌, Bool, true, cond, ◌&&◌, ltb, leb, List, [], ◌∷◌, reverse, length, sym, ap, ◌∙◌}
+use Rattle.std.proofs.Common.{◌≡◌, ℕ, ◌+◌, ◌*◌, Bool, true, cond, ◌&&◌, ltb, leb, List, [], ◌∷◌, ◌++◌, reverse, length, sym, ap, ◌∙◌}
 use Rattle.std.proofs.lemmas.List.{length-reverse, length-map}
+use Rattle.layout.specs.declared.side.Side.{Side}
 use Rattle.model.specs.Sheet.{Change, rows_of, columns_of}
 use Rattle.model.specs.Journal as model
 use Rattle.model.specs.Journal.{Sheet, Answer, done, refused, first_no, verdict, named_in, has_column, lost_of, unless, after, step, change}
 use Rattle.model.proofs.Counting.{Counts}
+use Rattle.model.proofs.Listed.{Numbers}
 use Rattle.journal.specs.declared.parts.Parts.{Parts}
 use Rattle.moves.specs.Stores.{items}
 use Rattle.journal.specs.View.{view, entries_of, runs_of, entry_of, run_of}
-use Rattle.journal.specs.Asking.{rooms}
+use Rattle.journal.specs.Asking.{rooms, rooms_with}
 
 pub passes : (n : ℕ) (b : Bool) (qs : List (ℕ × Bool)) (a : Answer) → b ≡ true → a ≡ first_no qs → a ≡ first_no ((n, b) ∷ qs)
 passes n b qs a e h = h ∙ ap (λ v. cond v (first_no qs) (refused n)) (sym e)
@@ -26,12 +28,18 @@ pub asked_as :
     → a ≡ first_no (rooms (view p) m n k l) → a ≡ first_no (rooms (view p) m' n' k' l')
 asked_as p a m n k l m' n' k' l' em en ek el h = h ∙ (λ i. first_no (rooms (view p) (em i) (en i) (ek i) (el i)))
 
--- the verdict from the counts: one for all changes
-pub verdict_is :
-    {A : Type 0} (s : Sheet A) (ch : Change A) (m n : ℕ) (rs : List (ℕ × ℕ)) (l : ℕ) → Counts s.table ch m n rs l
-    → first_no (rooms s m n (length rs) l) ≡ verdict s ch
-verdict_is s ch m n rs l h =
-    let F : ℕ → ℕ → ℕ → ℕ → Bool → Bool → Answer = λ m n k l b2 b9.
+pub asked_with :
+    {A : Type 0} (p : Parts A) (side : Side) (a : Answer) (k r l k' r' l' : ℕ) → k ≡ k' → r ≡ r' → l ≡ l'
+    → a ≡ first_no (rooms_with p side k r l) → a ≡ first_no (rooms_with p side k' r' l')
+asked_with p side a k r l k' r' l' ek er el h = h ∙ (λ i. first_no (rooms_with p side (ek i) (er i) (el i)))
+
+-- the verdict from the numbers: one for all changes
+pub verdict_of :
+    {A : Type 0} (s : Sheet A) (ch : Change A) (m n : ℕ) (rs : List (ℕ × ℕ)) (l : ℕ) → Numbers s.table ch m n rs l
+    → first_no (rooms s m n (length rs) l ++ ((9, has_column s.table ch) ∷ [])) ≡ verdict s ch
+verdict_of s ch m n rs l h =
+    let b9 = has_column s.table ch in
+    let F : ℕ → ℕ → ℕ → ℕ → Bool → Answer = λ m n k l b2.
     first_no ((2, b2) ∷ (3, leb m 4096 && leb n 4096) ∷ (4, leb (m * n) s.room.for_cells) ∷ (5, ltb (length s.entries) s.room.for_entries)
     ∷ (6, leb (length s.runs + k) s.room.for_runs) ∷ (7, leb (length s.saved + l) s.room.for_saved) ∷ (9, b9) ∷ []) in
     let M = length (rows_of s.table ch) in
@@ -39,10 +47,17 @@ verdict_is s ch m n rs l h =
     let K = length (model.runs_of s.table ch) in
     let L = length (lost_of s.table ch) in
     let b2 = named_in s.table ch in
-    let b9 = has_column s.table ch in
     let k = length rs in
-    sym (ap (λ z. F z N K L b2 b9) h.rows ∙ ap (λ z. F m z K L b2 b9) h.columns ∙ ap (λ z. F m n (length z) L b2 b9) h.runs
-    ∙ ap (λ z. F m n k z b2 b9) h.lost ∙ ap (λ z. F m n k l z b9) h.named ∙ ap (λ z. F m n k l true z) h.columned)
+    sym (ap (λ z. F z N K L b2) h.rows ∙ ap (λ z. F m z K L b2) h.columns ∙ ap (λ z. F m n (length z) L b2) h.runs
+    ∙ ap (λ z. F m n k z b2) h.lost ∙ ap (λ z. F m n k l z) h.named)
+
+-- where question 9 is answered yes
+pub verdict_is :
+    {A : Type 0} (s : Sheet A) (ch : Change A) (m n : ℕ) (rs : List (ℕ × ℕ)) (l : ℕ) → Counts s.table ch m n rs l
+    → first_no (rooms s m n (length rs) l) ≡ verdict s ch
+verdict_is s ch m n rs l h =
+    ap (λ b. first_no (rooms s m n (length rs) l ++ ((9, b) ∷ []))) (sym h.columned)
+    ∙ verdict_of s ch m n rs l (record { named = h.named; rows = h.rows; columns = h.columns; runs = h.runs; lost = h.lost })
 
 -- a change that is refused
 module _ {A : Type 0} (s : Sheet A) (ch : Change A) where

@@ -1,7 +1,10 @@
 -- The questions that every change puts.
 use Rattle.std.specs.Prelude.{ℕ, ◌+◌, ◌*◌, ◌<◌, ◌≤◌, Bool, ◌&&◌, List, [], ◌∷◌, length, nat_le, nat_lt}
+use Rattle.layout.specs.declared.side.Side.{Side}
+use Rattle.moves.specs.Blocks.{columns_with, rows_with}
 use Rattle.moves.specs.Stores.{items, room}
 use Rattle.journal.specs.declared.parts.Parts.{Parts}
+use Rattle.journal.specs.View.{view}
 use Rattle.model.specs.Journal.{Sheet}
 
 -- questions 3 to 7 of a change to m rows and n columns, with k runs and l lost cells of its own
@@ -22,3 +25,10 @@ pub record Fits {A : Type 0} (p : Parts A) (m n k l : ℕ) : Type 0 where
   pub entries : length (items p.entries) < room p.entries
   pub runs : length (items p.runs) + k ≤ room p.runs
   pub saved : length (items p.saved) + l ≤ room p.saved
+
+-- the same, of a change to k lines of the side
+abbrev pub FitsWith : {A : Type 0} → Parts A → Side → (k runs cells : ℕ) → Type 0
+FitsWith p side k runs cells = Fits p (rows_with side k p.table.rows) (columns_with side k p.table.columns) runs cells
+
+abbrev pub rooms_with : {A : Type 0} → Parts A → Side → (k runs cells : ℕ) → List (ℕ × Bool)
+rooms_with p side k runs cells = rooms (view p) (rows_with side k p.table.rows) (columns_with side k p.table.columns) runs cells

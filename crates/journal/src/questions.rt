@@ -1,10 +1,11 @@
 ghost use Rattle.std.specs.Prelude.{◌≡◌};
 ghost use Rattle.model.specs.Journal.{done, first_no};
 ghost use Rattle.journal.specs.View.{answered, view};
-ghost use Rattle.journal.specs.Asking.{Fits, rooms};
+ghost use Rattle.journal.specs.Asking.{Fits, FitsWith, rooms, rooms_with};
 
 use super::parts::Parts;
 use layout::refusal::Refusal;
+use layout::side::Side;
 use layout::storage::ask_lines;
 
 // Questions 3 to 7, the same for every change: it leaves so many rows and columns, and has so many runs and lost
@@ -33,4 +34,19 @@ pub fn ask<T>(
         return Err(Refusal::SavedFull);
     }
     Ok(())
+}
+
+// The same, of a change that leaves k lines of the side.
+pub fn ask_with<T>(
+    p: &Parts<'_, T>,
+    side: Side,
+    k: usize,
+    runs: usize,
+    cells: usize,
+) -> Result<(), Refusal>
+    ensures which { answered result ≡ first_no (rooms_with p.now side k runs cells) }
+    ensures goes { answered result ≡ done → FitsWith p.now side k runs cells }
+{
+    let (rows, columns) = p.table.shape_with(side, k);
+    ask(p, rows, columns, runs, cells)
 }

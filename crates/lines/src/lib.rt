@@ -2,16 +2,18 @@
 // come one by one, as in the sheet's calls that hand them on; the table makes a `Block` of them.
 #![tactic(auto)]
 
-ghost use Rattle.std.specs.Prelude.{◌+◌, ◌≤◌};
+ghost use Rattle.std.specs.Prelude.{◌+◌, ◌-◌, ◌≤◌, length};
+ghost use Rattle.moves.specs.Blocks.{cells_of, count_of};
 ghost use Rattle.model.specs.Sheet.{insert_lines, remove_lines};
-ghost use Rattle.model.specs.Journal.{change};
+ghost use Rattle.model.specs.Journal.{change, one_run};
 ghost use Rattle.journal.specs.View.{side_of};
+ghost use Rattle.journal.specs.Asking.{FitsWith};
 ghost use Rattle.journal.specs.Answering.{Answers, Held};
-ghost use Rattle.lines.specs.Moving.{Inserted, InsertionFits, RemovalFits, Removed, lines_of};
+ghost use Rattle.lines.specs.Moving.{Inserted, Removed};
 
 use journal::entering::{note_run, run_count};
 use journal::parts::{Note, Parts};
-use journal::questions::ask;
+use journal::questions::ask_with;
 use layout::refusal::Refusal;
 use layout::side::Side;
 
@@ -29,16 +31,15 @@ pub fn remove_lines<T: Copy>(
     if i as usize + n as usize > count {
         return Err(Refusal::NoSuchLine);
     }
-    let (rows, columns) = p.table.shape_with(side, count - n as usize);
     let lost = p.table.cells_in(side, n);
-    ask(p, rows, columns, run_count(i, n), lost)?;
+    ask_with(p, side, count - n as usize, run_count(i, n), lost)?;
     cut_lines(p, side, i, n);
     Ok(())
 }
 
 fn cut_lines<T: Copy>(p: &mut Parts<'_, T>, side: Side, i: u32, n: u32)
-    requires there { i + n ≤ lines_of p.old side }
-    requires fits { RemovalFits p.old side i n }
+    requires there { i + n ≤ count_of p.old.table side }
+    requires fits { FitsWith p.old side (count_of p.old.table side - n) (length (one_run i n)) (cells_of p.old.table side n) }
     ensures { Removed p.old p.new side i n }
 {
     let lost = p.table.cells_in(side, n);
@@ -64,15 +65,14 @@ pub fn insert_lines<T: Copy>(
     if i > count {
         return Err(Refusal::NoSuchLine);
     }
-    let (rows, columns) = p.table.shape_with(side, count as usize + n as usize);
-    ask(p, rows, columns, 0, 0)?;
+    ask_with(p, side, count as usize + n as usize, 0, 0)?;
     put_lines(p, side, i, n, v);
     Ok(())
 }
 
 fn put_lines<T: Copy>(p: &mut Parts<'_, T>, side: Side, i: u32, n: u32, v: T)
-    requires there { i ≤ lines_of p.old side }
-    requires fits { InsertionFits p.old side n }
+    requires there { i ≤ count_of p.old.table side }
+    requires fits { FitsWith p.old side (count_of p.old.table side + n) 0 0 }
     ensures { Inserted p.old p.new side i n v }
 {
     let entry = p.entry(Note::Insertion(side, i, n), 0, 0);

@@ -1,8 +1,8 @@
 -- Blocks copied and slid, as lists.
 use Rattle.std.proofs.Common.{◌≡◌, ℕ, suc, ◌+◌, ◌-◌, ◌*◌, ◌<◌, ◌≤◌, List, [], ◌∷◌, ◌++◌, map, length, get_or, take, drop, sym, ap, ◌∙◌, subst, append_assoc, append-nil, add-mul, arith, length-append}
 use Rattle.std.proofs.lemmas.List.{get_or-take, get_or-drop, length-drop, length-take-le, same_lists, drop-drop, drop_more, drop_all, take_all}
-use Rattle.moves.specs.Slides.{Copied, Slid}
-use Rattle.moves.proofs.Places.{next_column, columns_le, columns_split}
+use Rattle.moves.specs.Slides.{Copied}
+use Rattle.moves.proofs.Places.{columns_le, columns_split}
 use Rattle.model.proofs.Joins.{put_behind}
 use Rattle.journal.specs.declared.parts.Run.{Run}
 use Rattle.journal.specs.View.{run_of}
@@ -26,16 +26,13 @@ module _ {A : Type 0} where
       let e2 = block_long src from len h in
       put_behind xs ys to len (take len (drop from src)) long l s.below
       (same_lists (take len (drop to ys)) (take len (drop from src)) (e1 ∙ sym e2) (λ k d b.
-      get_or-take len (drop to ys) k d (omega arith) ∙ get_or-drop to ys k d ∙ s.moved k d (omega arith)
+      get_or-take len (drop to ys) k d (omega arith) ∙ get_or-drop to ys k d ∙ s.put k d (omega arith)
       ∙ sym (get_or-drop from src k d) ∙ sym (get_or-take len (drop from src) k d (omega arith))))
 
-  slid_copied : (xs ys : List A) (from to len : ℕ) → Slid xs ys from to len → Copied xs xs ys from to len
-  slid_copied xs ys from to len s = record { long = s.long; moved = s.moved; below = s.below; above = s.above }
-
-  -- behind what was slid to the left all stands
-  slid_rest : (xs ys : List A) (from to len : ℕ) → to ≤ from → Slid xs ys from to len → drop (from + len) ys ≡ drop (from + len) xs
-  slid_rest xs ys from to len h s =
-      let n = from + len in
+  -- behind what was copied all stands
+  copied_rest : (src xs ys : List A) (from to len : ℕ) → Copied src xs ys from to len → drop (to + len) ys ≡ drop (to + len) xs
+  copied_rest src xs ys from to len s =
+      let n = to + len in
       same_lists (drop n ys) (drop n xs) (length-drop n ys ∙ ap (λ z. z - n) s.long ∙ sym (length-drop n xs)) (λ k d b.
       get_or-drop n ys k d ∙ s.above (n + k) d (omega arith) ∙ sym (get_or-drop n xs k d))
 
@@ -93,20 +90,19 @@ module _ {A : Type 0} (w : ℕ) (xs : List A) (from a b : ℕ) (ab : a ≤ b) (i
   pub stretch : (from + a * w + (b - a) * w ≤ length xs) × (to + (b - a) * w ≤ from + b * w)
   stretch = let e = columns_split a b w ab in (omega arith, omega arith)
 
-  pub closing_more : (ys zs : List A) (rest all : List A) → length ys ≡ length xs → drop (from + a * w) ys ≡ drop (from + a * w) xs
-      → Slid ys zs (from + a * w) to ((b - a) * w)
+  pub closing_more : (ys zs : List A) (rest all : List A) → length ys ≡ length xs → drop to ys ≡ drop to xs
+      → Copied ys ys zs (from + a * w) to ((b - a) * w)
       → take to ys ++ (take ((b - a) * w) (drop (a * w) (drop from xs)) ++ rest) ≡ all
-      → (take (to + (b - a) * w) zs ++ rest ≡ all) × (drop (from + b * w) zs ≡ drop (from + b * w) xs)
+      → (take (to + (b - a) * w) zs ++ rest ≡ all) × (drop (to + (b - a) * w) zs ≡ drop (to + (b - a) * w) xs)
   closing_more ys zs rest all long same s h =
       let n : ℕ = from + a * w in
       let len : ℕ = (b - a) * w in
-      let e = columns_split a b w ab in
-      let f : n + len ≡ from + b * w = omega arith in (
-        ap (λ z. z ++ rest) (copied_behind ys ys zs n to len (omega arith) (omega arith) (slid_copied ys zs n to len s))
+      let e = columns_split a b w ab in (
+        ap (λ z. z ++ rest) (copied_behind ys ys zs n to len (omega arith) (omega arith) s)
             ∙ append_assoc (take to ys) (take len (drop n ys)) rest
-            ∙ ap (λ z. take to ys ++ (take len z ++ rest)) (same ∙ sym (drop-drop (a * w) from xs))
+            ∙ ap (λ z. take to ys ++ (take len z ++ rest)) (drop_on ys xs to n back same ∙ sym (drop-drop (a * w) from xs))
             ∙ h,
-        ap (λ z. drop z zs) (sym f) ∙ slid_rest ys zs n to len back s ∙ ap (λ z. drop z ys) f ∙ drop_on ys xs n (from + b * w) (omega arith) same,
+        copied_rest ys ys zs n to len s ∙ drop_on ys xs to (to + len) (omega arith) same,
       )
 
 -- a turn of the loop that closes up the runs of a group
@@ -124,27 +120,27 @@ module _ {A : Type 0} (w : ℕ) (xs : List A) (from e : ℕ) (inside : from + e 
       let i = start_inside in
       (next_rising.0, s.0, rising_ends ((run_at rs j).0 + (run_at rs j).1) e (ahead rs (j + 1)) next_rising.1, omega arith)
 
-  pub closing_next : (ys zs all : List A) → length ys ≡ length xs → drop (from + at * w) ys ≡ drop (from + at * w) xs
-      → Slid ys zs (from + at * w) to (((run_at rs j).0 - at) * w)
+  pub closing_next : (ys zs all : List A) → length ys ≡ length xs → drop to ys ≡ drop to xs
+      → Copied ys ys zs (from + at * w) to (((run_at rs j).0 - at) * w)
       → take to ys ++ taken w (drop from xs) (between at (ahead rs j) e) ≡ all
       → Rising ((run_at rs j).0 + (run_at rs j).1) (ahead rs (j + 1)) e
       × (to + ((run_at rs j).0 - at) * w ≤ from + ((run_at rs j).0 + (run_at rs j).1) * w)
       × (take (to + ((run_at rs j).0 - at) * w) zs ++ taken w (drop from xs) (between ((run_at rs j).0 + (run_at rs j).1) (ahead rs (j + 1)) e) ≡ all)
-      × (drop (from + ((run_at rs j).0 + (run_at rs j).1) * w) zs ≡ drop (from + ((run_at rs j).0 + (run_at rs j).1) * w) xs)
+      × (drop (to + ((run_at rs j).0 - at) * w) zs ≡ drop (to + ((run_at rs j).0 - at) * w) xs)
   closing_next ys zs all long same s k =
       let r = run_at rs j in
       let more = closing_more w xs from at r.0 next_rising.0 start_inside to back ys zs (taken w (drop from xs) (between (r.0 + r.1) (ahead rs (j + 1)) e)) all long same s
       (ap (λ zs. take to ys ++ taken w (drop from xs) (between at zs e)) (sym (ahead_more rs j h)) ∙ k) in
       let on = columns_le r.0 (r.0 + r.1) w (omega arith) in
       let reach = stretch w xs from at r.0 next_rising.0 start_inside to back in
-      (next_rising.1, omega arith, more.0, drop_on zs xs (from + r.0 * w) (from + (r.0 + r.1) * w) (omega arith) more.1)
+      (next_rising.1, omega arith, more.0, more.1)
 
 -- the last turn, behind the last run
 pub closed : {A : Type 0} (w : ℕ) (xs : List A) (from e : ℕ) → from + e * w ≤ length xs → (rs : List Run) (j at to top : ℕ) → length rs ≤ j → at ≤ e → to ≤ from + at * w
-    → top ≤ length xs → (ys zs more : List A) → length ys ≡ length xs → length zs ≡ length xs → drop (from + at * w) ys ≡ drop (from + at * w) xs
-    → Slid ys zs (from + at * w) to ((e - at) * w)
+    → top ≤ length xs → (ys zs more : List A) → length ys ≡ length xs → length zs ≡ length xs → drop to ys ≡ drop to xs
+    → Copied ys ys zs (from + at * w) to ((e - at) * w)
     → take to ys ++ taken w (drop from xs) (between at (ahead rs j) e) ≡ take top xs ++ more
-    → (to + (e - at) * w ≡ top + length more) × Behind xs zs top more × (drop (from + e * w) zs ≡ drop (from + e * w) xs)
+    → (to + (e - at) * w ≡ top + length more) × Behind xs zs top more
 closed w xs from e inside rs j at to top h ae back tl ys zs more long long2 same s k =
     let end : ℕ = to + (e - at) * w in
     let turn = closing_more w xs from at e ae inside to back ys zs [] (take top xs ++ more) long same s
@@ -156,7 +152,7 @@ closed w xs from e inside rs j at to top h ae back tl ys zs more long long2 same
     let l3 = ap length put in
     let l4 = length-append (take top xs) more in
     let is : end ≡ top + length more = omega arith in
-    (is, record { long = long2; put = ap (λ z. take z zs) (sym is) ∙ put }, turn.1)
+    (is, record { long = long2; put = ap (λ z. take z zs) (sym is) ∙ put; rest = subst (λ k. drop k zs ≡ drop k xs) is turn.1 })
 
 -- one group more
 
@@ -189,8 +185,6 @@ module _ {A : Type 0} (w size g n : ℕ) (xs : List A) (rs : List (ℕ × ℕ)) 
 pub group_same : {A : Type 0} (w n : ℕ) (xs ys : List A) (rs : List (ℕ × ℕ)) → drop n ys ≡ drop n xs → taken w (drop n ys) rs ≡ taken w (drop n xs) rs
 group_same w n xs ys rs e = ap (λ z. taken w z rs) e
 
-pub groups_rest : {A : Type 0} (g size : ℕ) (xs ys zs : List A) → drop (g * size) ys ≡ drop (g * size) xs → drop (g * size + size) zs ≡ drop (g * size + size) ys
-    → drop ((g + 1) * size) zs ≡ drop ((g + 1) * size) xs
-groups_rest g size xs ys zs e f =
-    let next = next_column g size in
-    ap (λ n. drop n zs) next ∙ f ∙ drop_on ys xs (g * size) (g * size + size) (omega arith) e ∙ ap (λ n. drop n xs) (sym next)
+pub groups_rest : {A : Type 0} (xs ys zs more : List A) (to end : ℕ) → end ≡ to + length more → drop to ys ≡ drop to xs → Behind ys zs to more → drop end zs ≡ drop end xs
+groups_rest xs ys zs more to end e same b =
+    subst (λ k. drop k zs ≡ drop k xs) (sym e) (b.rest ∙ drop_on ys xs to (to + length more) (omega arith) same)

@@ -26,7 +26,7 @@ abbrev pub lines_of_side : Side → (rows columns : ℕ) → Lines
 lines_of_side Rows rows columns = record { width = 1; count = rows; groups = columns }
 lines_of_side Columns rows columns = record { width = rows; count = columns; groups = 1 }
 
--- the lines are there, and few
+-- the lines are there, and a group of them has at most 65,536 cells
 abbrev pub Lying : {A : Type 0} → Lines → List A → Type 0
 Lying lines xs = (lines.count * lines.width ≤ 65536) × (lines.groups * (lines.count * lines.width) ≤ length xs)
 
@@ -37,7 +37,8 @@ cut lines xs rs = taken_of lines.width (lines.count * lines.width) 0 lines.group
 abbrev pub spared : {A : Type 0} → Lines → List A → List Run → List A
 spared lines xs rs = taken_of lines.width (lines.count * lines.width) 0 lines.groups xs (between 0 (map run_of rs) lines.count)
 
--- the cells of `more` stand behind the first `top`, which stand
+-- the cells of `more` stand behind the first `top`, and all others stand as they were
 pub record Behind {A : Type 0} (was is : List A) (top : ℕ) (more : List A) : Type 0 where
   pub long : length is ≡ length was
   pub put : take (top + length more) is ≡ take top was ++ more
+  pub rest : drop (top + length more) is ≡ drop (top + length more) was

@@ -1,7 +1,7 @@
 // Runs of lines saved and taken out: one text for rows and for columns.
-ghost use Rattle.std.specs.Prelude.{◌≡◌, ◌+◌, ◌*◌, ◌≤◌, ◌++◌, map, length, drop};
-ghost use Rattle.moves.specs.Blocks.{lines_in};
-ghost use Rattle.moves.specs.Stores.{items, room};
+ghost use Rattle.std.specs.Prelude.{◌≡◌, ◌+◌, ◌*◌, ◌≤◌, map, length, drop};
+ghost use Rattle.moves.specs.Blocks.{SameShape, count_of};
+ghost use Rattle.moves.specs.Stores.{Grown, items, room};
 ghost use Rattle.journal.specs.View.{run_of};
 ghost use Rattle.listed.specs.Runs.{Rising};
 ghost use Rattle.listed.specs.Cuts.{Behind, Lying, between, cut, lines_of_side, spared, taken};
@@ -13,7 +13,8 @@ use moves::store::Store;
 use moves::vec_storage::Table;
 
 // How the lines of a side lie in the cells: `width` cells to a line, `count` lines one behind the other, and that
-// `groups` times. A row has one cell in each column; a column is all its cells.
+// `groups` times. A row has one cell in each column; a column is all its cells. No `Block`, which is some rows: runs count
+// lines, and there is a block for each.
 #[derive(Clone, Copy)]
 struct Lines {
     width: usize,
@@ -46,8 +47,7 @@ fn save_group<T: Copy>(cells: &[T], lines: Lines, runs: &[Run], saved: &mut Stor
     requires rising { Rising 0 (map run_of runs.now) lines.count }
     requires inside { lines.count * lines.width ≤ length cells.now }
     requires fits { length (items saved.old) + length (taken lines.width cells.now (map run_of runs.now)) ≤ room saved.old }
-    ensures saved { items saved.new ≡ items saved.old ++ taken lines.width cells.now (map run_of runs.now) }
-    ensures same { room saved.new ≡ room saved.old }
+    ensures { Grown saved.old saved.new (taken lines.width cells.now (map run_of runs.now)) }
 {
     for run in runs {
         let from = run.offset as usize * lines.width;
@@ -70,7 +70,6 @@ fn close_group<T: Copy>(
     requires back { top ≤ from }
     ensures ends { (result ≡ top + length (taken lines.width (drop from cells.old) (between 0 (map run_of runs.now) lines.count))) × (result ≤ from + lines.count * lines.width) }
     ensures put { Behind cells.old cells.new top (taken lines.width (drop from cells.old) (between 0 (map run_of runs.now) lines.count)) }
-    ensures rest { drop (from + lines.count * lines.width) cells.new ≡ drop (from + lines.count * lines.width) cells.old }
 {
     let mut at = 0;
     let mut to = top;
@@ -91,8 +90,7 @@ fn save_runs<T: Copy>(cells: &[T], lines: Lines, runs: &[Run], saved: &mut Store
     requires rising { Rising 0 (map run_of runs.now) lines.count }
     requires inside { Lying lines cells.now }
     requires fits { length (items saved.old) + length (cut lines cells.now runs.now) ≤ room saved.old }
-    ensures saved { items saved.new ≡ items saved.old ++ cut lines cells.now runs.now }
-    ensures same { room saved.new ≡ room saved.old }
+    ensures { Grown saved.old saved.new (cut lines cells.now runs.now) }
 {
     let size = lines.count * lines.width;
     for g in 0..lines.groups {
@@ -120,12 +118,11 @@ pub fn cut_runs<T: Copy>(
     runs: &[Run],
     saved: &mut Store<'_, T>,
 )
-    requires rising { Rising 0 (map run_of runs.now) (lines_in side table.old.rows table.old.columns) }
+    requires rising { Rising 0 (map run_of runs.now) (count_of table.old side) }
     requires fits { length (items saved.old) + length (cut (lines_of_side side table.old.rows table.old.columns) table.old.cells.now runs.now) ≤ room saved.old }
-    ensures lost { items saved.new ≡ items saved.old ++ cut (lines_of_side side table.old.rows table.old.columns) table.old.cells.now runs.now }
-    ensures same { room saved.new ≡ room saved.old }
+    ensures lost { Grown saved.old saved.new (cut (lines_of_side side table.old.rows table.old.columns) table.old.cells.now runs.now) }
     ensures left { Behind table.old.cells.now table.new.cells.now 0 (spared (lines_of_side side table.old.rows table.old.columns) table.old.cells.now runs.now) }
-    ensures shape { (table.new.rows ≡ table.old.rows) × (table.new.columns ≡ table.old.columns) }
+    ensures shape { SameShape table.old table.new }
 {
     let lines = Lines::of(table, side);
     let cells = &mut *table.cells;

@@ -1,5 +1,5 @@
 -- Runs found and lines taken out, put together to the change that the model has.
-use Rattle.std.proofs.Common.{◌≡◌, ℕ, Ok, Err, ◌+◌, ◌-◌, ◌*◌, ◌<◌, ◌≤◌, true, List, [], ◌∷◌, ◌++◌, map, length, take, sym, refl, ap, ◌∙◌, subst, ap₂, sum_by, arith}
+use Rattle.std.proofs.Common.{◌≡◌, ℕ, Ok, Err, ◌+◌, ◌-◌, ◌*◌, ◌<◌, ◌≤◌, true, List, [], ◌++◌, map, length, take, sym, refl, ap, ◌∙◌, subst, ap₂, sum_by, arith}
 use mathlib.Core.List.{map-append}
 use Rattle.std.proofs.lemmas.Bool.{le-ltb, lt-ltb}
 use Rattle.std.proofs.lemmas.List.{length-map}
@@ -7,7 +7,8 @@ use Rattle.layout.specs.declared.refusal.Refusal.{Refusal}
 use Rattle.layout.specs.Refusals.{number_of}
 use Rattle.layout.specs.declared.side.Side.{Side}
 use Rattle.layout.specs.declared.side.Side.TheVariants.{Rows, Columns}
-use Rattle.moves.specs.Blocks.{cells_in, columns_with, lines_in, rows_with}
+use Rattle.moves.specs.declared.vec_storage.Table as moves
+use Rattle.moves.specs.Blocks.{cells_in, columns_with, count_of, lines_in, rows_with}
 use Rattle.moves.specs.Stores.{items}
 use Rattle.model.specs.Sheet.{listed, remove_listed, Table, changed}
 use Rattle.model.specs.Journal.{Answer, Right, change, done, first_no, refused, has_column, lines_of, runs_from, lost_of}
@@ -16,12 +17,12 @@ use Rattle.model.proofs.Listed.{counted, Numbers, goes, goes_few, rows_listed, c
 use Rattle.journal.specs.declared.parts.Note.TheVariants.{ListedRemoval}
 use Rattle.journal.specs.declared.parts.Run.{Run}
 use Rattle.journal.specs.declared.parts.Parts.{Parts}
-use Rattle.journal.specs.View.{run_of, runs_of, saved_of, side_of, table_of, view}
+use Rattle.journal.specs.View.{run_of, runs_of, saved_of, side_of, table_of}
 use Rattle.journal.specs.Entering.{entry_for}
 use Rattle.journal.specs.Answering.{Answers, Held, Performed}
-use Rattle.journal.specs.Asking.{rooms}
-use Rattle.journal.proofs.Asking.{asked_as}
-use Rattle.journal.proofs.Answering.{accepted, right}
+use Rattle.journal.specs.Asking.{rooms_with}
+use Rattle.journal.proofs.Asking.{asked_with}
+use Rattle.journal.proofs.Answering.{accepted, entered, right, same_room}
 use Rattle.listed.specs.Runs.{Rising}
 use Rattle.listed.specs.Cuts.{between, cut, lines_of_side, spared, taken_of}
 use Rattle.listed.proofs.Walks.{lines_summed, runs_rising}
@@ -45,9 +46,9 @@ numbers t ks s gone right e =
     go Rows = rows_listed t ks right
     go Columns = let h = columns_listed t ks right in record { named = h.named; rows = h.rows; columns = h.columns; runs = h.runs; lost = h.lost }
 
-pub lines_few : {A : Type 0} (p : Parts A) (s : Side) → lines_in s p.table.rows p.table.columns ≤ 4096
-lines_few p Rows = p.table.few_rows
-lines_few p Columns = p.table.few_columns
+pub lines_few : {A : Type 0} (t : moves.Table A) (s : Side) → count_of t s ≤ 4096
+lines_few t Rows = t.few_rows
+lines_few t Columns = t.few_columns
 
 -- question 9: rows leave only where a column is there
 some_column : {A : Type 0} (t : Table A) (ks : List ℕ) (s : Side) → (s ≡ Rows → 0 < t.columns) → has_column t (remove_listed (side_of s) ks) ≡ true
@@ -106,35 +107,30 @@ module _ {A : Type 0} (p : Parts A) (s : Side) (ks : List ℕ) (own : List Run) 
         record {
           note = ListedRemoval s;
           noted = refl;
-          rows = c.rows;
-          columns = c.columns;
+          rows = c.shape.0;
+          columns = c.shape.1;
           cells = ap (λ k. take k q.table.cells.now) whole ∙ c.cells.put ∙ own_left;
-          saved = c.saved ∙ ap (λ zs. saved_of p ++ zs) own_lost;
-          runs = ap (map run_of) c.runs ∙ map-append run_of (items p.runs) own ∙ ap (λ zs. runs_of p ++ zs) e;
-          entries_behind = c.entries_behind;
-          entries = c.entries ∙ ap (λ k. items p.entries ++ entry_for p (ListedRemoval s) k (cells_in s gone p.table.rows p.table.columns) ∷ []) (own_many ks (lines_in s p.table.rows p.table.columns) own e);
-          room = c.room;
+          saved = c.saved.more ∙ ap (λ zs. saved_of p ++ zs) own_lost;
+          runs = ap (map run_of) c.runs.more ∙ map-append run_of (items p.runs) own ∙ ap (λ zs. runs_of p ++ zs) e;
+          entries = entered p _ _ _ (ap (λ k. entry_for p (ListedRemoval s) k (cells_in s gone p.table.rows p.table.columns)) (own_many ks (lines_in s p.table.rows p.table.columns) own e)) c.entries;
+          room = same_room _ _ _ _ _ _ _ _ c.cells.long c.entries.kept.room c.runs.kept.room c.saved.kept.room;
         }
 
     -- the answers, from the questions asked of numbers that come to the same
-    module _ (k m n l : ℕ) (ek : k ≡ lines_in s p.table.rows p.table.columns)
-        (shape : (m ≡ rows_with s (k - gone) p.table.rows) × (n ≡ columns_with s (k - gone) p.table.columns)) (el : l ≡ cells_in s gone p.table.rows p.table.columns) (h : Held p) where
-      asked : (a : Answer) → a ≡ first_no (rooms (view p) m n (length own) l)
-          → a ≡ first_no (rooms (view p) (rows_with s (lines_in s p.table.rows p.table.columns - gone) p.table.rows) (columns_with s (lines_in s p.table.rows p.table.columns - gone) p.table.columns)
-          (length (runs_from (listed ks) 0 (lines_in s p.table.rows p.table.columns))) (cells_in s gone p.table.rows p.table.columns))
-      asked a =
-          asked_as p a m n (length own) l _ _ _ _ (shape.0 ∙ ap (λ z. rows_with s (z - gone) p.table.rows) ek) (shape.1 ∙ ap (λ z. columns_with s (z - gone) p.table.columns) ek)
-          (own_many ks (lines_in s p.table.rows p.table.columns) own e) el
+    module _ (k l : ℕ) (ek : k ≡ lines_in s p.table.rows p.table.columns - gone) (el : l ≡ cells_in s gone p.table.rows p.table.columns) (h : Held p) where
+      asked : (a : Answer) → a ≡ first_no (rooms_with p s k (length own) l)
+          → a ≡ first_no (rooms_with p s (lines_in s p.table.rows p.table.columns - gone) (length (runs_from (listed ks) 0 (lines_in s p.table.rows p.table.columns))) (cells_in s gone p.table.rows p.table.columns))
+      asked a = asked_with p s a k (length own) l _ _ _ ek (own_many ks (lines_in s p.table.rows p.table.columns) own e) el
 
-      pub stopped : (x : Refusal) → refused (number_of x) ≡ first_no (rooms (view p) m n (length own) l) → Answers p p (change (remove_listed (side_of s) ks)) (Err x)
+      pub stopped : (x : Refusal) → refused (number_of x) ≡ first_no (rooms_with p s k (length own) l) → Answers p p (change (remove_listed (side_of s) ks)) (Err x)
       stopped x w = stopped_early p (remove_listed (side_of s) ks) _ _ _ _ (numbers (table_of p) ks s gone (right p) f) h x (asked (refused (number_of x)) w)
 
-      pub no_column : done ≡ first_no (rooms (view p) m n (length own) l) → s ≡ Rows → p.table.columns ≡ 0 → Answers p p (change (remove_listed (side_of s) ks)) (Err Refusal.NoColumn)
+      pub no_column : done ≡ first_no (rooms_with p s k (length own) l) → s ≡ Rows → p.table.columns ≡ 0 → Answers p p (change (remove_listed (side_of s) ks)) (Err Refusal.NoColumn)
       no_column w rows none =
           columnless p (remove_listed (side_of s) ks) _ _ _ _ (numbers (table_of p) ks s gone (right p) f) h (asked done w)
           (ap (λ z. has_column (table_of p) (remove_listed (side_of z) ks)) rows ∙ le-ltb 0 p.table.columns (omega arith))
 
-      pub carried_out : (q : Parts A) → done ≡ first_no (rooms (view p) m n (length own) l) → (s ≡ Rows → 0 < p.table.columns) → Cut p q s own gone
+      pub carried_out : (q : Parts A) → done ≡ first_no (rooms_with p s k (length own) l) → (s ≡ Rows → 0 < p.table.columns) → Cut p q s own gone
           → Answers p q (change (remove_listed (side_of s) ks)) (Ok tt)
       carried_out q w there c =
           accepted p q (remove_listed (side_of s) ks) _ _ _ _ (counted _ _ _ _ _ _ (numbers (table_of p) ks s gone (right p) f) (some_column (table_of p) ks s there)) (performed_cut q c) h (asked done w)

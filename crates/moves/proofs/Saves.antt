@@ -4,7 +4,7 @@ use Rattle.std.proofs.lemmas.List.{get_or_append_left, get_or-append-add, get_or
 use Rattle.std.proofs.lemmas.Bool.{cases_lt}
 use Rattle.moves.specs.Slides.{Written}
 use Rattle.moves.specs.declared.store.Store.{Store}
-use Rattle.moves.specs.Stores.{Kept, items}
+use Rattle.moves.specs.Stores.{Grown, Kept, items}
 use Rattle.moves.specs.Blocks.{rows_block}
 use Rattle.moves.specs.Tables.{RowsWritten, Saved}
 use Rattle.moves.proofs.Slides.{at}
@@ -44,6 +44,9 @@ kept_on s t u a l b = record {
   room = b.room ∙ a.room;
   behind = λ k d h. b.behind k d h ∙ a.behind k d (omega arith);
 }
+
+pub grown_long : {X : Type 0} (s t : Store X) (xs : List X) → Grown s t xs → length (items s) ≤ length (items t)
+grown_long s t xs g = let e = ap length g.more in let f = length-append (items s) xs in omega arith
 
 module _ {X : Type 0} (xs ys zs : List X) (rows i n : ℕ) (cell : ℕ → ℕ → X → X) (gap : i + n ≤ rows) where
   -- the rows of one column more

@@ -1,8 +1,9 @@
 -- The lines of a side, and some of them as rows of a table.
-use Rattle.std.specs.Prelude.{ℕ, ◌+◌, ◌*◌, ◌≤◌}
+use Rattle.std.specs.Prelude.{◌≡◌, ℕ, ◌+◌, ◌*◌, ◌≤◌}
 use Rattle.layout.specs.declared.side.Side.{Side}
 use Rattle.layout.specs.declared.side.Side.TheVariants.{Rows, Columns}
 use Rattle.moves.specs.declared.vec_storage.Block.{Block}
+use Rattle.moves.specs.declared.vec_storage.Table.{Table}
 
 -- how many lines the side has
 abbrev pub lines_in : Side → (rows columns : ℕ) → ℕ
@@ -30,6 +31,24 @@ rows_block rows columns i n = record { rows = rows; columns = columns; first = i
 abbrev pub block_of : Side → (rows columns i n : ℕ) → Block
 block_of Rows rows columns i n = rows_block rows columns i n
 block_of Columns rows columns i n = rows_block (rows * columns) 1 (i * rows) (n * rows)
+
+-- the same of a table: how many lines of the side it has, how many cells k of them have, and n lines at i as rows
+abbrev pub count_of : {X : Type 0} → Table X → Side → ℕ
+count_of t side = lines_in side t.rows t.columns
+
+abbrev pub cells_of : {X : Type 0} → Table X → Side → ℕ → ℕ
+cells_of t side k = cells_in side k t.rows t.columns
+
+abbrev pub block_in : {X : Type 0} → Table X → Side → (i n : ℕ) → Block
+block_in t side i n = block_of side t.rows t.columns i n
+
+-- t has the shape of s with k lines of the side
+abbrev pub Shaped : {X : Type 0} → (s t : Table X) → Side → ℕ → Type 0
+Shaped s t side k = (t.rows ≡ rows_with side k s.rows) × (t.columns ≡ columns_with side k s.columns)
+
+-- and the shape of s itself
+abbrev pub SameShape : {X : Type 0} → (s t : Table X) → Type 0
+SameShape s t = (t.rows ≡ s.rows) × (t.columns ≡ s.columns)
 
 -- the block lies in its table, and that in so many cells
 abbrev pub Inside : Block → ℕ → Type 0

@@ -1,7 +1,7 @@
 // Rows put into and taken out of a table that lies column by column at the start of a buffer: the cell of row r and
 // column c is at r + c * rows. The lines of either side are such rows.
 ghost use Rattle.std.specs.Prelude.{◌≡◌, ◌+◌, ◌-◌, ◌*◌, ◌≤◌, length};
-ghost use Rattle.moves.specs.Blocks.{Inside, Opens, block_of, cells_in, columns_with, lines_in, rows_with};
+ghost use Rattle.moves.specs.Blocks.{Inside, Opens, SameShape, Shaped, block_in, cells_of, count_of};
 ghost use Rattle.moves.specs.Stores.{Kept, items, room};
 ghost use Rattle.moves.specs.Tables.{Compressed, Extended, Inserted, Opened, Put, Restored, RowsFilled, Saved};
 
@@ -128,9 +128,9 @@ pub fn insert_rows<T: Copy>(cells: &mut [T], b: Block, v: T)
 impl<'a, T: Copy> Table<'a, T> {
     // Copies n lines at i to a store, column by column.
     pub fn save_lines(&self, side: Side, i: u32, n: u32, saved: &mut Store<'_, T>)
-        requires there { i + n ≤ lines_in side self.now.rows self.now.columns }
-        requires fits { length (items saved.old) + cells_in side n self.now.rows self.now.columns ≤ room saved.old }
-        ensures saved { Saved self.now.cells.now (items saved.old) (items saved.new) (block_of side self.now.rows self.now.columns i n) }
+        requires there { i + n ≤ count_of self.now side }
+        requires fits { length (items saved.old) + cells_of self.now side n ≤ room saved.old }
+        ensures saved { Saved self.now.cells.now (items saved.old) (items saved.new) (block_in self.now side i n) }
         ensures kept { Kept saved.old saved.new }
     {
         let b = self.block(side, i, n);
@@ -139,9 +139,9 @@ impl<'a, T: Copy> Table<'a, T> {
 
     // Takes n lines out at i.
     pub fn remove_lines(&mut self, side: Side, i: u32, n: u32)
-        requires { i + n ≤ lines_in side self.old.rows self.old.columns }
-        ensures cells { Compressed self.old.cells.now self.new.cells.now (block_of side self.old.rows self.old.columns i n) }
-        ensures shape { (self.new.rows ≡ rows_with side (lines_in side self.old.rows self.old.columns - n) self.old.rows) × (self.new.columns ≡ columns_with side (lines_in side self.old.rows self.old.columns - n) self.old.columns) }
+        requires { i + n ≤ count_of self.old side }
+        ensures cells { Compressed self.old.cells.now self.new.cells.now (block_in self.old side i n) }
+        ensures shape { Shaped self.old self.new side (count_of self.old side - n) }
     {
         let b = self.block(side, i, n);
         let left = self.count(side) - n;
@@ -151,10 +151,10 @@ impl<'a, T: Copy> Table<'a, T> {
 
     // Makes room for n lines at i; the shape is left to the caller.
     pub fn extend_lines(&mut self, side: Side, i: u32, n: u32)
-        requires there { i ≤ lines_in side self.old.rows self.old.columns }
-        requires fits { cells_in side (lines_in side self.old.rows self.old.columns + n) self.old.rows self.old.columns ≤ length self.old.cells.now }
-        ensures cells { Extended self.old.cells.now self.new.cells.now (block_of side self.old.rows self.old.columns i n) }
-        ensures shape { (self.new.rows ≡ self.old.rows) × (self.new.columns ≡ self.old.columns) }
+        requires there { i ≤ count_of self.old side }
+        requires fits { cells_of self.old side (count_of self.old side + n) ≤ length self.old.cells.now }
+        ensures cells { Extended self.old.cells.now self.new.cells.now (block_in self.old side i n) }
+        ensures shape { SameShape self.old self.new }
     {
         let b = self.block(side, i, n);
         extend_rows(self.cells, b);
@@ -162,11 +162,11 @@ impl<'a, T: Copy> Table<'a, T> {
 
     // Puts n lines of v in at i.
     pub fn insert_lines(&mut self, side: Side, i: u32, n: u32, v: T)
-        requires there { i ≤ lines_in side self.old.rows self.old.columns }
-        requires few { lines_in side self.old.rows self.old.columns + n ≤ 4096 }
-        requires fits { cells_in side (lines_in side self.old.rows self.old.columns + n) self.old.rows self.old.columns ≤ length self.old.cells.now }
-        ensures cells { Inserted self.old.cells.now self.new.cells.now (block_of side self.old.rows self.old.columns i n) v }
-        ensures shape { (self.new.rows ≡ rows_with side (lines_in side self.old.rows self.old.columns + n) self.old.rows) × (self.new.columns ≡ columns_with side (lines_in side self.old.rows self.old.columns + n) self.old.columns) }
+        requires there { i ≤ count_of self.old side }
+        requires few { count_of self.old side + n ≤ 4096 }
+        requires fits { cells_of self.old side (count_of self.old side + n) ≤ length self.old.cells.now }
+        ensures cells { Inserted self.old.cells.now self.new.cells.now (block_in self.old side i n) v }
+        ensures shape { Shaped self.old self.new side (count_of self.old side + n) }
     {
         let b = self.block(side, i, n);
         let more = self.count(side) + n;

@@ -3,7 +3,7 @@
 
 ghost use Rattle.std.specs.Prelude.{◌≡◌, ◌<◌, [], Ok};
 ghost use Rattle.layout.specs.Lawful.{dense};
-ghost use Rattle.moves.specs.Blocks.{lines_in};
+ghost use Rattle.moves.specs.Blocks.{SameShape, count_of};
 ghost use Rattle.model.specs.Sheet.{swap_lines};
 ghost use Rattle.model.specs.Journal.{change, undo};
 ghost use Rattle.journal.specs.declared.parts.Note.TheVariants.{Exchange};
@@ -23,9 +23,9 @@ use moves::vec_storage::Table;
 
 // A table's cells lie as a dense layout has them.
 fn swap_cells<T: Copy>(table: &mut Table<'_, T>, side: Side, i: u32, j: u32)
-    requires { (i < lines_in side table.old.rows table.old.columns) × (j < lines_in side table.old.rows table.old.columns) }
+    requires { (i < count_of table.old side) × (j < count_of table.old side) }
     ensures cells { Swapped side (dense table.old.rows table.old.columns) table.old.cells.now table.new.cells.now i j }
-    ensures shape { (table.new.rows ≡ table.old.rows) × (table.new.columns ≡ table.old.columns) }
+    ensures shape { SameShape table.old table.new }
 {
     let whole = Dense::make(table.rows, table.columns);
     // The lines are there, so neither is refused; a `?` would make a refusal of it. Two calls, as in the source: `edition`
@@ -51,7 +51,7 @@ pub fn swap<T: Copy>(p: &mut Parts<'_, T>, side: Side, i: u32, j: u32) -> Result
 }
 
 fn exchange<T: Copy>(p: &mut Parts<'_, T>, side: Side, i: u32, j: u32)
-    requires there { (i < lines_in side p.old.table.rows p.old.table.columns) × (j < lines_in side p.old.table.rows p.old.table.columns) }
+    requires there { (i < count_of p.old.table side) × (j < count_of p.old.table side) }
     requires fits { Fits p.old p.old.table.rows p.old.table.columns 0 0 }
     ensures { Performed p.old p.new (swap_lines (side_of side) i j) p.old.table.rows p.old.table.columns [] 0 }
 {

@@ -36,7 +36,7 @@ pub fn bring_back_shape<T: Copy>(saved: &[T], table: &mut Table<'_, T>, rows: u3
     requires fits { rows * columns ≤ length table.old.cells.now }
     requires there { rows * columns - min rows table.old.rows * min columns table.old.columns ≤ length saved.now }
     ensures cells { ShapeBack saved.now table.old.cells.now table.new.cells.now table.old.rows table.old.columns rows columns }
-    ensures shape { (table.new.rows ≡ table.old.rows) × (table.new.columns ≡ table.old.columns) }
+    ensures shape { SameShape table.old table.new }
 {
     let both = columns.min(table.columns) as usize;
     let (m, high) = (table.rows as usize, rows as usize);

@@ -1,4 +1,4 @@
-use Rattle.std.proofs.Common.{[], ◌∷◌, ◌++◌, refl, ap, ◌∙◌, ap₂}
+use Rattle.std.proofs.Common.{refl, ◌∙◌, ap₂}
 use Rattle.journal.specs.declared.parts.Note.TheVariants.{Removal}
 use Rattle.journal.specs.View.{table_of}
 use Rattle.journal.specs.Entering.{entry_for}

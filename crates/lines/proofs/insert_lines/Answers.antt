@@ -1,27 +1,22 @@
-use Rattle.std.proofs.Common.{◌+◌, refl, ap, ◌∙◌, arith}
+use Rattle.std.proofs.Common.{◌+◌, refl, ap, arith}
 use Rattle.std.proofs.lemmas.Result.{err_from_is_err_and}
-use Rattle.moves.specs.Blocks.{columns_with, rows_with}
 use Rattle.journal.specs.View.{table_of}
-use Rattle.journal.proofs.Asking.{asked_as}
+use Rattle.journal.proofs.Asking.{asked_with}
 use Rattle.journal.proofs.Answering.{full, accepted}
 use Rattle.lines.proofs.Sides.{inserted}
 use Rattle.lines.proofs.insert_lines.Goals as goal
 
-pub returns-in_err-ask : goal.returns-in_err-ask
-returns-in_err-ask g c =
+pub returns-in_err-ask_with : goal.returns-in_err-ask_with
+returns-in_err-ask_with g c =
     let p = c.args.p.now in
     let a = c.args in
-    let em = c.shape_with-rows.ensures.0 ∙ ap (λ z. rows_with a.side (z + a.n) p.table.rows) c.count-count.ensures in
-    let en = c.shape_with-rows.ensures.1 ∙ ap (λ z. columns_with a.side (z + a.n) p.table.columns) c.count-count.ensures in
     let q = err_from_is_err_and c.from_residual.result c.from_residual.ensures.1 in
     rw (q.1, q.2) (full p _ _ _ _ _ (inserted (table_of p) a.i a.n a.side a.v (omega (arith, c.count-count.ensures))) _ c.requires
-    (asked_as p _ _ _ _ _ _ _ _ _ em en refl refl c.in_err-ask.ensures.which))
+    (asked_with p a.side _ _ _ _ _ _ _ (ap (λ z. z + a.n) c.count-count.ensures) refl refl c.in_err-ask_with.ensures.which))
 
 pub returns : goal.returns
 returns g c =
     let p = c.args.p.now in
     let a = c.args in
-    let em = c.shape_with-rows.ensures.0 ∙ ap (λ z. rows_with a.side (z + a.n) p.table.rows) c.count-count.ensures in
-    let en = c.shape_with-rows.ensures.1 ∙ ap (λ z. columns_with a.side (z + a.n) p.table.columns) c.count-count.ensures in
     accepted p _ _ _ _ _ _ (inserted (table_of p) a.i a.n a.side a.v (omega (arith, c.count-count.ensures))) c.put_lines.ensures c.requires
-    (asked_as p _ _ _ _ _ _ _ _ _ em en refl refl c.in_ok-ask.ensures.which)
+    (asked_with p a.side _ _ _ _ _ _ _ (ap (λ z. z + a.n) c.count-count.ensures) refl refl c.in_ok-ask_with.ensures.which)

@@ -1,4 +1,4 @@
-use Rattle.std.proofs.Common.{[], ◌∷◌, ◌++◌, sym, refl, ap, ◌∙◌, append-nil}
+use Rattle.std.proofs.Common.{sym, refl, append-nil}
 use Rattle.journal.specs.declared.parts.Note.TheVariants.{Insertion}
 use Rattle.model.specs.Sheet.{insert_lines}
 use Rattle.journal.specs.View.{side_of, table_of}

@@ -1,5 +1,5 @@
 ghost use Rattle.std.specs.Prelude.{◌≡◌, ◌+◌, ◌*◌, ◌^◌, ◌<◌, ◌≤◌, length, take};
-ghost use Rattle.moves.specs.Blocks.{block_of, cells_in, columns_with, lines_in, rows_block, rows_with};
+ghost use Rattle.moves.specs.Blocks.{Shaped, block_in, cells_of, columns_with, count_of, rows_block, rows_with};
 
 use super::{Block, Table};
 use layout::side::Side;
@@ -39,7 +39,7 @@ impl<'a, T> Table<'a, T> {
 
     // How many lines the side has.
     pub fn count(&self, side: Side) -> u32
-        ensures { result ≡ lines_in side self.now.rows self.now.columns }
+        ensures { result ≡ count_of self.now side }
     {
         match side {
             Side::Rows => self.rows,
@@ -71,9 +71,9 @@ impl<'a, T> Table<'a, T> {
     // Gives the side k lines; the cells are left to the caller.
     pub fn set_count(&mut self, side: Side, k: u32)
         requires few { k ≤ 4096 }
-        requires fits { cells_in side k self.old.rows self.old.columns ≤ length self.old.cells.now }
+        requires fits { cells_of self.old side k ≤ length self.old.cells.now }
         ensures cells { self.new.cells ≡ self.old.cells }
-        ensures shape { (self.new.rows ≡ rows_with side k self.old.rows) × (self.new.columns ≡ columns_with side k self.old.columns) }
+        ensures shape { Shaped self.old self.new side k }
     {
         match side {
             Side::Rows => self.rows = k,
@@ -83,7 +83,7 @@ impl<'a, T> Table<'a, T> {
 
     // How many cells n lines of the side have.
     pub fn cells_in(&self, side: Side, n: u32) -> usize
-        ensures { result ≡ cells_in side n self.now.rows self.now.columns }
+        ensures { result ≡ cells_of self.now side n }
     {
         match side {
             Side::Rows => n as usize * self.columns as usize,
@@ -93,7 +93,7 @@ impl<'a, T> Table<'a, T> {
 
     // The n lines at i as rows. A column is `rows` rows of the table seen as one column.
     pub fn block(&self, side: Side, i: u32, n: u32) -> Block
-        ensures { result ≡ block_of side self.now.rows self.now.columns i n }
+        ensures { result ≡ block_in self.now side i n }
     {
         let (rows, columns) = (self.rows as usize, self.columns as usize);
         let (first, count) = (i as usize, n as usize);

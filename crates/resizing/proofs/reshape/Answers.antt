@@ -1,4 +1,4 @@
-use Rattle.std.proofs.Common.{[], ◌∷◌, ◌++◌, sym, refl, ap, ◌∙◌, append-nil}
+use Rattle.std.proofs.Common.{sym, refl, ap, ◌∙◌, append-nil}
 use Rattle.journal.specs.declared.parts.Note.TheVariants.{Resizing}
 use Rattle.journal.specs.View.{table_of}
 use Rattle.journal.specs.Entering.{entry_for}

@@ -54,4 +54,4 @@ returns g c =
     let reach = stretch a.lines.width a.cells.now a.from l.at a.lines.count ends c.requires.inside l.to l.invariant.back in
     let h = closed a.lines.width a.cells.now a.from a.lines.count c.requires.inside a.runs.now l.run-index l.at l.to a.top (omega arith)
     ends l.invariant.back (omega arith) l.cells c.slide-2.new.cells _ l.auto.cells (omega arith) l.invariant.rest c.slide-2.ensures l.invariant.moved in
-    record { ends = (h.0, reach.1); put = h.1; rest = h.2 }
+    record { ends = (h.0, reach.1); put = h.1 }

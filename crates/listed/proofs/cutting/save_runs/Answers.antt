@@ -1,5 +1,6 @@
 use Rattle.std.proofs.Common.{◌*◌, ◌++◌, map, ap, ◌∙◌, arith}
 use Rattle.moves.specs.Stores.{items}
+use Rattle.moves.proofs.Saves.{grown_long, kept_on}
 use Rattle.journal.specs.View.{run_of}
 use Rattle.listed.specs.Cuts.{taken}
 use Rattle.listed.proofs.Blocks.{group_fits, group_saved, open_end}
@@ -19,7 +20,7 @@ loop-g-preserved g c =
     record {
       saved = group_saved a.lines.width size c.loop-g.g a.lines.groups a.cells.now (map run_of a.runs.now) (omega arith)
           (items c.loop-g.saved) (items c.save_group.new.saved) _
-          (c.save_group.ensures.saved ∙ ap (λ zs. items c.loop-g.saved ++ taken a.lines.width zs (map run_of a.runs.now)) (open_end a.cells.now (c.loop-g.g * size)))
+          (c.save_group.ensures.more ∙ ap (λ zs. items c.loop-g.saved ++ taken a.lines.width zs (map run_of a.runs.now)) (open_end a.cells.now (c.loop-g.g * size)))
           c.loop-g.invariant.saved;
-      same = c.save_group.ensures.same ∙ c.loop-g.invariant.same;
+      kept = kept_on a.saved.now c.loop-g.saved c.save_group.new.saved c.loop-g.invariant.kept (grown_long _ _ _ c.save_group.ensures) c.save_group.ensures.kept;
     }

@@ -1,5 +1,5 @@
 use Rattle.std.proofs.Common.{◌≡◌, ◌-◌, ◌*◌, ◌++◌, map}
-use Rattle.moves.specs.Stores.{items, room}
+use Rattle.moves.specs.Stores.{Kept, items}
 use Rattle.journal.specs.View.{run_of}
 use Rattle.listed.specs.Cuts.{taken_of}
 use Rattle.listed.proofs.cutting.save_runs.Given as goal
@@ -10,5 +10,5 @@ invariant-loop-g g l = record {
   saved :
       items l.saved ++ taken_of l.lines.width (l.lines.count * l.lines.width) l.g (l.lines.groups - l.g) l.cells (map run_of l.runs)
       ≡ items l.initial.saved ++ taken_of l.lines.width (l.lines.count * l.lines.width) 0 l.lines.groups l.cells (map run_of l.runs);
-  same : room l.saved ≡ room l.initial.saved;
+  kept : Kept l.initial.saved l.saved;
 }
