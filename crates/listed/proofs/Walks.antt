@@ -1,17 +1,29 @@
 -- The walk that finds the runs, against the model's runs.
-use Rattle.std.proofs.Common.{◌≡◌, ℕ, zero, suc, ◌+◌, ◌-◌, ◌<◌, ◌≤◌, Bool, true, false, cond, eqb, List, [], ◌∷◌, ◌++◌, map, length, get_or, drop, sym, refl, ap, ◌∙◌, subst, ap₂, inl, inr, append_assoc, zero-add, arith, length-append}
+use Rattle.std.proofs.Common.{◌≡◌, ℕ, zero, suc, ◌+◌, ◌-◌, ◌<◌, ◌≤◌, Bool, true, false, cond, eqb, List, [], ◌∷◌, ◌++◌, map, length, get_or, drop, sym, refl, ap, ◌∙◌, subst, ap₂, inl, inr, append_assoc, arith, length-append}
+use mathlib.Core.Bool.{beq}
 use mathlib.Core.List.{map-append}
-use Rattle.std.specs.List.{range_with_len}
+use Rattle.std.specs.List.{range_with_len, sum_by, IsChunkByPrefix}
+use Rattle.std.proofs.Math.Seq.{drop-append_seam}
 use Rattle.std.proofs.lemmas.List.FromFn.{length-range_with_len}
-use Rattle.std.specs.List.{sum_by}
-use Rattle.std.proofs.lemmas.List.{get_or-drop, length-drop}
+use Rattle.std.proofs.lemmas.List.{get_or-drop, get_or_append_left, length-drop, drop-drop}
 use Rattle.std.proofs.lemmas.List.Sums.{sum_by-cons}
-use Rattle.std.proofs.lemmas.Bool.{cases_lt, cases_Bool, cond-true, cond-false, eqb-true, eq-eqb, ne_eqb}
+use Rattle.std.proofs.lemmas.Bool.{both_ways, cases_Bool, cond-true, cond-false, eqb-true, eq-eqb, ne_eqb}
 use Rattle.model.specs.Journal.{begun, runs_from, lines_of}
 use Rattle.journal.specs.declared.parts.Run.{Run}
 use Rattle.journal.specs.View.{run_of}
 use Rattle.model.proofs.Listed.{runs_same}
-use Rattle.listed.specs.Runs.{Leads, Rising, marked}
+use Rattle.listed.specs.Runs.{Rising, marked}
+
+-- marks that are equal, and that are not
+beq_same : (a b : Bool) → beq a b ≡ true → a ≡ b
+beq_same true true e = refl
+beq_same false false e = refl
+beq_same true false e = absurd (both_ways false refl e)
+beq_same false true e = absurd (both_ways false refl e)
+
+beq_not : (a b : Bool) → beq a b ≡ false → a ≡ b → ⊥
+beq_not true b e f = both_ways true (ap (beq true) f ∙ e) refl
+beq_not false b e f = both_ways true (ap (beq false) f ∙ e) refl
 
 -- runs that rise from b on rise from any line before
 pub rising_from : (a b e : ℕ) (rs : List (ℕ × ℕ)) → a ≤ b → Rising b rs e → Rising a rs e
@@ -87,96 +99,79 @@ lines_summed (r ∷ rs) =
     ∙ ap₂ ◌+◌ (length-range_with_len r.offset r.length) (lines_summed rs)
     ∙ sym (sum_by-cons (λ (r : Run). r.length) r rs)
 
--- marks that are alike, from a line on
-module _ (marks : List Bool) (at : ℕ) (inside : at ≤ length marks) (what : Bool) (n : ℕ) (s : Leads (drop at marks) what n) where
-  pub still_inside : at + n ≤ length marks
-  still_inside = omega (arith, length-drop at marks, s.within)
+-- a part that leads the marks from a line on
+pub record Part (marks : List Bool) (at : ℕ) (part more : List Bool) : Type 0 where
+  pub inside : at ≤ length marks
+  pub cut : drop at marks ≡ part ++ more
+  pub some : 0 < length part
 
-  alike : (k : ℕ) → at ≤ k → k < at + n → get_or marks k false ≡ what
-  alike k a b =
-      ap (λ (z : ℕ). get_or marks z false) (let e : k ≡ at + (k - at) = omega arith in e)
-      ∙ sym (get_or-drop at marks (k - at) false) ∙ s.all (k - at) (omega arith)
+module _ {marks : List Bool} {at : ℕ} {part more : List Bool} (s : Part marks at part more) where
+  pub part_inside : at + length part ≤ length marks
+  part_inside = omega (arith, s.inside, sym (length-drop at marks) ∙ ap length s.cut ∙ length-append part more)
 
-  other : at + n < length marks → get_or marks (at + n) false ≡ what → ⊥
-  other h e = s.stop (omega (arith, length-drop at marks)) (get_or-drop at marks n false ∙ e)
+  pub part_rest : drop (at + length part) marks ≡ more
+  part_rest = sym (drop-drop (length part) at marks) ∙ ap (drop (length part)) s.cut ∙ drop-append_seam part more
 
-module _ (marks : List Bool) where
-  -- clear lines are passed over
-  pub past_clear : (at n : ℕ) → at ≤ length marks → Leads (drop at marks) false n
-      → runs_from (marked marks) at (length marks - at) ≡ runs_from (marked marks) (at + n) (length marks - (at + n))
-  past_clear at n h s =
-      let inside = still_inside marks at h false n s in
-      ap (runs_from (marked marks) at) (let e : length marks - at ≡ n + (length marks - (at + n)) = omega arith in e)
-      ∙ runs_past (marked marks) n at (length marks - (at + n)) (alike marks at h false n s)
+  pub part_first : marked marks at ≡ get_or part 0 false
+  part_first =
+      ap (marked marks) (let e : at ≡ at + 0 = omega arith in e)
+      ∙ sym (get_or-drop at marks 0 false) ∙ ap (λ ms. get_or ms 0 false) s.cut ∙ get_or_append_left part more false 0 s.some
 
-  -- and behind them a marked one stands
-  pub turned : (at n : ℕ) → at ≤ length marks → Leads (drop at marks) false n → at + n < length marks → get_or marks (at + n) false ≡ true
-  turned at n h s l = elim (cases_Bool (get_or marks (at + n) false)) [ inl e ↦ e | inr e ↦ absurd (other marks at h false n s l e) ]
+  -- and is the longest of marks that are alike
+  module _ (longest : IsChunkByPrefix beq (drop at marks) (length part)) (what : Bool) (begins : get_or part 0 false ≡ what) where
+    alike_by : (k : ℕ) → k < length part → get_or (drop at marks) k false ≡ what
+    alike_by zero h = get_or-drop at marks 0 false ∙ ap (marked marks) (omega arith) ∙ part_first ∙ begins
+    alike_by (suc k) h =
+        ap (λ z. get_or (drop at marks) z false) (let e : suc k ≡ k + 1 = omega arith in e)
+        ∙ sym (beq_same (get_or (drop at marks) k false) (get_or (drop at marks) (k + 1) false) (longest.0 k false (omega arith)))
+        ∙ alike_by k (omega arith)
 
-  module _ (at n : ℕ) (within : at < length marks) (begins : get_or marks at false ≡ true) (t : Leads (drop at marks) true n) where
-    inside : at ≤ length marks
-    inside = omega arith
+    alike : (k : ℕ) → at ≤ k → k < at + length part → marked marks k ≡ what
+    alike k a b =
+        ap (marked marks) (let e : k ≡ at + (k - at) = omega arith in e)
+        ∙ sym (get_or-drop at marks (k - at) false) ∙ alike_by (k - at) (omega arith)
 
-    pub run_grows : 0 < n
-    run_grows = elim (cases_lt 0 n) [
-      | inl l ↦ l
-      | inr l ↦
-          let e : at + n ≡ at = omega arith in
-          absurd (other marks at inside true n t (omega arith) (ap (λ (k : ℕ). get_or marks k false) e ∙ begins))
-    ]
+    -- right behind it the other mark stands
+    pub part_ends : at + length part < length marks → marked marks (at + length part) ≡ what → ⊥
+    part_ends h e =
+        let n = length part in
+        beq_not (get_or (drop at marks) (n - 1) false) (get_or (drop at marks) n false) (longest.1 (omega (arith, length-drop at marks)) false)
+        (alike_by (n - 1) (omega (arith, s.some)) ∙ sym e ∙ sym (get_or-drop at marks n false))
 
-    -- a run does not begin right behind a run
-    pub gap_grows : (m : ℕ) → Leads (drop (at + n) marks) false m → at + n + m < length marks → 0 < m
-    gap_grows m s h = elim (cases_lt 0 m) [
-      | inl l ↦ l
-      | inr l ↦
-          let e : at + n ≡ at + n + m = omega arith in
-          absurd (other marks at inside true n t (omega arith)
-          (ap (λ (k : ℕ). get_or marks k false) e ∙ turned (at + n) m (still_inside marks at inside true n t) s h))
-    ]
+  module _ (longest : IsChunkByPrefix beq (drop at marks) (length part)) where
+    -- a clear part is passed over
+    pub part_clear : get_or part 0 false ≡ false
+        → runs_from (marked marks) at (length marks - at) ≡ runs_from (marked marks) (at + length part) (length marks - (at + length part))
+    part_clear e =
+        let m : ℕ = length marks - (at + length part) in
+        ap (runs_from (marked marks) at) (let f : length marks - at ≡ length part + m = omega (arith, part_inside) in f)
+        ∙ runs_past (marked marks) (length part) at m (alike longest false e)
 
-    pub next_run : runs_from (marked marks) at (length marks - at) ≡ (at, n) ∷ runs_from (marked marks) (at + n) (length marks - (at + n))
-    next_run =
+    -- a marked part is a run
+    pub part_run : get_or part 0 false ≡ true
+        → runs_from (marked marks) at (length marks - at) ≡ (at, length part) ∷ runs_from (marked marks) (at + length part) (length marks - (at + length part))
+    part_run e =
         let p = marked marks in
-        let m = length marks in
-        let k : ℕ = n - 1 in
-        let l = still_inside marks at inside true n t in
-        let grows = run_grows in
-        let e : n ≡ suc k = omega arith in
-        ap (runs_from p at) (let f : m - at ≡ suc k + (m - (at + n)) = omega arith in f)
-        ∙ runs_one p k at (m - (at + n)) (λ j g h. alike marks at inside true n t j g (omega arith)) (λ h. elim (cases_Bool (p (at + suc k))) [
+        let k : ℕ = length part - 1 in
+        let m : ℕ = length marks - (at + length part) in
+        let n : length part ≡ suc k = omega (arith, s.some) in
+        ap (runs_from p at) (let f : length marks - at ≡ suc k + m = omega (arith, part_inside) in f)
+        ∙ runs_one p k at m (λ j a b. alike longest true e j a (omega arith)) (λ h. elim (cases_Bool (p (at + suc k))) [
           | inr f ↦ f
-          | inl f ↦ absurd (other marks at inside true n t (omega arith) (ap (λ (z : ℕ). get_or marks (at + z) false) e ∙ f))
+          | inl f ↦ absurd (part_ends longest true e (omega arith) (ap (λ (z : ℕ). p (at + z)) n ∙ f))
         ])
-        ∙ ap (λ z. (at, z) ∷ runs_from p (at + z) (m - (at + n))) (sym e)
+        ∙ ap (λ z. (at, z) ∷ runs_from p (at + z) m) (sym n)
 
--- where the walk begins
-pub begins_at : (marks : List Bool) (n : ℕ) → Leads marks false n
-    → (n ≤ length marks) × (n < length marks → get_or marks n false ≡ true)
-    × (runs_from (marked marks) n (length marks - n) ≡ runs_from (marked marks) 0 (length marks))
-begins_at marks n s =
-    let h : 0 ≤ length marks = omega arith in
-    let whole : length marks - 0 ≡ length marks = omega arith in
-    subst
-    (λ k. (k ≤ length marks) × (k < length marks → get_or marks k false ≡ true) × (runs_from (marked marks) k (length marks - k) ≡ runs_from (marked marks) 0 (length marks)))
-    (zero-add n)
-    (still_inside marks 0 h false n s, turned marks 0 n h s, sym (past_clear marks 0 n h s) ∙ ap (runs_from (marked marks) 0) whole)
-
--- one turn of the walk: a run is written down, and the clear lines behind it are passed over
-pub run_written : (marks : List Bool) (at n m : ℕ) (was is : List Run) (all : List (ℕ × ℕ)) → at < length marks → get_or marks at false ≡ true
-    → Leads (drop at marks) true n → Leads (drop (at + n) marks) false m → is ≡ was ++ record { offset = at; length = n } ∷ []
-    → map run_of was ++ runs_from (marked marks) at (length marks - at) ≡ all
-    → map run_of is ++ runs_from (marked marks) (at + n + m) (length marks - (at + n + m)) ≡ all
-run_written marks at n m was is all h b t s e f =
+-- the run is written down
+pub run_written : (was is : List Run) (at n : ℕ) (rest all found : List (ℕ × ℕ)) → is ≡ was ++ record { offset = at; length = n } ∷ []
+    → found ≡ (at, n) ∷ rest → map run_of was ++ found ≡ all → map run_of is ++ rest ≡ all
+run_written was is at n rest all found e f g =
     let r : Run = record { offset = at; length = n } in
-    let rest = runs_from (marked marks) (at + n + m) (length marks - (at + n + m)) in
-    let l : at ≤ length marks = omega arith in
     ap (λ zs. map run_of zs ++ rest) e
     ∙ ap (λ zs. zs ++ rest) (map-append run_of was (r ∷ []))
     ∙ append_assoc (map run_of was) ((at, n) ∷ []) rest
-    ∙ ap (λ zs. map run_of was ++ ((at, n) ∷ zs)) (sym (past_clear marks (at + n) m (still_inside marks at l true n t) s))
-    ∙ ap (λ zs. map run_of was ++ zs) (sym (next_run marks at n h b t))
-    ∙ f
+    ∙ ap (λ zs. map run_of was ++ zs) (sym f)
+    ∙ g
 
 -- what is marked is what the list names
 pub found_as : (p q : ℕ → Bool) (m n : ℕ) → m ≡ n → ((k : ℕ) → k < m → p k ≡ q k) → runs_from p 0 m ≡ runs_from q 0 n

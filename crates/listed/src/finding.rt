@@ -4,7 +4,7 @@ ghost use Rattle.moves.specs.Stores.{items, room};
 ghost use Rattle.model.specs.Sheet.{listed};
 ghost use Rattle.model.specs.Journal.{runs_from};
 ghost use Rattle.journal.specs.View.{run_of};
-ghost use Rattle.listed.specs.Runs.{Leads, marked};
+ghost use Rattle.listed.specs.Runs.{marked};
 
 use journal::parts::Run;
 use moves::store::Store;
@@ -22,29 +22,21 @@ fn mark_listed(list: &[u32], marks: &mut [bool])
     }
 }
 
-// How many marks are `what`, up to the first that is not.
-fn leading(marks: &[bool], what: bool) -> usize
-    ensures { Leads marks.now what result }
-{
-    marks.iter().take_while(|mark| **mark == what).count()
-}
-
 // Writes the runs of marked lines behind the others.
 fn find_runs(marks: &[bool], runs: &mut Store<'_, Run>)
     requires { (length marks.now + 2 * length (items runs.old) ≤ 2 * room runs.old) × (length marks.now ≤ 4096) }
     ensures found { map run_of (items runs.new) ≡ map run_of (items runs.old) ++ runs_from (marked marks.now) 0 (length marks.now) }
     ensures same { room runs.new ≡ room runs.old }
 {
-    // A turn goes over a whole run, so this is no `for` over the marks.
-    let mut at = leading(marks, false);
-    while at < marks.len() {
-        let count = leading(&marks[at..], true);
-        runs.push(Run {
-            offset: at as u32,
-            length: count as u32,
-        });
-        let end = at + count;
-        at = end + leading(&marks[end..], false);
+    let mut at = 0;
+    for alike in marks.chunk_by(|a, b| a == b) {
+        if alike[0] {
+            runs.push(Run {
+                offset: at as u32,
+                length: alike.len() as u32,
+            });
+        }
+        at += alike.len();
     }
 }
 

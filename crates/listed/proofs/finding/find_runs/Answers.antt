@@ -1,39 +1,57 @@
-use Rattle.std.proofs.Common.{◌+◌, ◌<◌, drop, true, false, [], ◌∷◌, ◌++◌, map, length, refl, ap, ◌∙◌, arith, length-append}
-use Rattle.moves.specs.Stores.{items}
+use Rattle.std.proofs.Common.{rules, ◌++◌, true, map, length, drop, sym, ap, ◌∙◌, arith, length-append}
+use mathlib.Core.Bool.{beq}
+use Rattle.std.specs.List.{IsChunkByPrefix}
+use Rattle.std.proofs.lemmas.Fn.{always_returns_same}
+use Rattle.moves.specs.Stores.{items, room}
 use Rattle.journal.specs.View.{run_of}
-use Rattle.listed.proofs.Walks.{begins_at, gap_grows, run_grows, run_written, still_inside, turned}
-use Rattle.listed.specs.Runs.{Leads}
-use Rattle.listed.proofs.Blocks.{open_end}
+use Rattle.listed.proofs.Walks.{Part, part_clear, part_ends, part_first, part_inside, part_rest, part_run, run_written}
+use Rattle.listed.proofs.finding.find_runs.Goals.{then-alike, else-alike}
 use Rattle.listed.proofs.finding.find_runs.Goals as goal
 
-pub loop-at-init : goal.loop-at-init
-loop-at-init c =
-    let h = begins_at c.args.marks.now c.leading-at.result c.leading-at.ensures in record {
-      within = h.0;
-      begins = h.1;
-      few = λ l. omega arith;
-      found = ap (λ zs. map run_of (items c.args.runs.now) ++ zs) h.2;
-      same = refl;
-    }
+pub push-requires : goal.push-requires
+push-requires c =
+    let i = c.loop-alike.invariant in
+    let t = (rw c.in-Some.is at c.next.ensures.steps) in
+    let s : Part _ _ _ _ = record { inside = i.within; cut = i.rest ∙ t.0; some = t.1 } in
+    let inside = part_inside s in
+    let few = i.apart (omega arith) (part_first s ∙ c.if-alike.true) in
+    omega arith
 
-pub loop-at-preserved : goal.loop-at-preserved
-loop-at-preserved c =
-    let marks = c.args.marks.now in
-    let at = c.loop-at.at in
-    let n = c.leading-count.result in
-    let m = c.leading.result in
-    let t : Leads (drop at marks) true n = rw (← open_end marks at) c.leading-count.ensures in
-    let s : Leads (drop (at + n) marks) false m = rw (← open_end marks (at + n)) c.leading.ensures in
-    let here : at < length marks = omega arith in
-    let begins = c.loop-at.invariant.begins here in
-    let end = still_inside marks at (omega arith) _ n t in
-    let grows = run_grows marks at n here begins t in
-    let more = ap length c.push.ensures.more in
-    let long = length-append (items c.loop-at.runs) (record { offset = at; length = n } ∷ []) in
-    let many = c.loop-at.invariant.few here in record {
-      within = still_inside marks (at + n) end _ m s;
-      begins = turned marks (at + n) m end s;
-      few = λ h. let gap = gap_grows marks at n here begins t m s h in omega arith;
-      found = run_written marks at n m (items c.loop-at.runs) (items c.push.new.self) _ here begins t s c.push.ensures.more c.loop-at.invariant.found;
-      same = c.push.ensures.kept.room ∙ c.loop-at.invariant.same;
-    }
+pub overflow_add-at : goal.overflow_add-at
+overflow_add-at c =
+    let i = c.loop-alike.invariant in
+    let t = (rw c.in-Some.is at c.next.ensures.steps) in
+    let inside = part_inside (record { inside = i.within; cut = i.rest ∙ t.0; some = t.1 }) in
+    omega arith
+
+pub loop-alike-preserved : goal.loop-alike-preserved
+loop-alike-preserved c =
+    let i = c.loop-alike.invariant in
+    let part = c.in-Some.alike.now in
+    let t = (rw c.in-Some.is at c.next.ensures.steps) in
+    let s : Part _ _ _ _ = record { inside = i.within; cut = i.rest ∙ t.0; some = t.1 } in
+    let longest : IsChunkByPrefix beq (drop c.loop-alike.at c.args.marks.now) (length part) =
+    rw i.rest (t.2 beq (always_returns_same _ _ _ (λ a r f d. search rules))).1 in
+    elim c.if-alike.branch [
+      | then-alike w ↦
+          let more = w.push.ensures.more in
+          let many = ap (λ runs. length (items runs)) w.runs-is ∙ ap length more ∙ length-append (items c.loop-alike.runs) _ in
+          let inside = part_inside s in
+          let few = i.apart (omega arith) (part_first s ∙ w.if-alike.true) in record {
+            within = inside;
+            rest = part_rest s;
+            few = omega arith;
+            apart = λ h e. absurd (part_ends s longest true w.if-alike.true h e);
+            found = rw w.runs-is (run_written _ _ _ (length part) _ _ _ more (part_run s longest w.if-alike.true) i.found);
+            same = ap room w.runs-is ∙ w.push.ensures.kept.room ∙ i.same;
+          }
+      | else-alike w ↦
+          let many = ap (λ runs. length (items runs)) w.runs-is in record {
+            within = part_inside s;
+            rest = part_rest s;
+            few = omega arith;
+            apart = λ h e. omega arith;
+            found = rw w.runs-is (ap (λ zs. map run_of (items c.loop-alike.runs) ++ zs) (sym (part_clear s longest w.if-alike.false)) ∙ i.found);
+            same = ap room w.runs-is ∙ i.same;
+          }
+    ]
