@@ -1,4 +1,4 @@
-ghost use Rattle.std.specs.Prelude.{◌≡◌, ◌+◌, ◌≤◌, length};
+ghost use Rattle.std.specs.Prelude.{◌+◌, ◌≤◌, length};
 ghost use Rattle.moves.specs.Blocks.{Shaped, block_in, cells_of, count_of};
 ghost use Rattle.gaps.specs.Taken.{RowsTaken};
 ghost use Rattle.gaps.specs.Gaps.{Filled, Roomy};

@@ -5,17 +5,18 @@ use Rattle.layout.specs.declared.refusal.Refusal.{Refusal}
 use Rattle.layout.specs.Refusals.{number_of}
 use Rattle.model.specs.Sheet.{Change}
 use Rattle.model.specs.Journal as model
-use Rattle.model.specs.Journal.{Sheet, Room, Right, done, refused, first_no, verdict, tests, named_in, after, change, lost_of}
+use Rattle.model.specs.Journal.{Sheet, Room, Right, done, refused, first_no, verdict, tests, named_in, after, change, lost_of, settled}
 use Rattle.model.proofs.Counting.{Counts}
 use Rattle.model.proofs.Reaching.{still_reached}
 use Rattle.model.proofs.Replays.{not_done}
 use Rattle.moves.specs.declared.store.Store.{Store}
+use Rattle.moves.specs.declared.vec_storage.Table.{Table}
 use Rattle.moves.specs.Stores.{Grown, items}
 use Rattle.journal.specs.declared.parts.Entry.{Entry}
 use Rattle.journal.specs.declared.parts.Parts.{Parts}
-use Rattle.journal.specs.View.{view, table_of, entries_of, runs_of, saved_of, entry_of}
+use Rattle.journal.specs.View.{view, table_of, entries_of, runs_of, saved_of, entry_of, run_of}
 use Rattle.journal.specs.Asking.{rooms}
-use Rattle.journal.specs.Entering.{entry_for}
+use Rattle.journal.specs.Entering.{Cleared, entry_for}
 use Rattle.journal.specs.Answering.{Held, Answers, Performed}
 use Rattle.journal.proofs.Asking.{verdict_is, refused_answer, refused_state, done_answer, done_state}
 use Rattle.journal.proofs.Entries.{entry_more}
@@ -93,3 +94,10 @@ nothing_lost p ch e = sym (append-nil (saved_of p)) ∙ ap (λ ks. saved_of p ++
 -- the entry that was made is the one that was entered
 pub entered : {A : Type 0} (p : Parts A) (es : Store Entry) (e f : Entry) → e ≡ f → Grown p.entries es (e ∷ []) → Grown p.entries es (f ∷ [])
 entered p es e f same h = subst (λ z. Grown p.entries es (z ∷ [])) same h
+
+pub cleared : {A : Type 0} (p q : Parts A) → Cleared p q → view q ≡ settled (view p)
+cleared {A} p q w =
+    same_sheet (view q) (settled (view p)) (ap (λ (t : Table A). t.rows) w.table) (ap (λ (t : Table A). t.columns) w.table)
+    (ap (λ (t : Table A). take (t.rows * t.columns) t.cells.now) w.table)
+    (ap (λ zs. map entry_of (reverse zs)) w.entries) (ap (map run_of) w.runs) w.saved
+    (same_room _ _ _ _ _ _ _ _ (ap (λ (t : Table A). length t.cells.now) w.table) (ap length w.entries_stand) (ap length w.runs_stand) (ap length w.saved_stand))

@@ -21,3 +21,13 @@ pub record Holds {A : Type 0} (p : Parts A) (buffer : List A) (es : List Entry) 
 -- the entry of a change, with so many runs and saved cells of its own
 abbrev pub entry_for : {A : Type 0} → Parts A → Note → ℕ → ℕ → Entry
 entry_for p note runs cells = record { note = note; rows = p.table.rows; columns = p.table.columns; runs = runs; cells = cells }
+
+-- the same table, and in the same places an empty journal
+pub record Cleared {A : Type 0} (p q : Parts A) : Type 0 where
+  pub table : q.table ≡ p.table
+  pub entries : items q.entries ≡ []
+  pub runs : items q.runs ≡ []
+  pub saved : items q.saved ≡ []
+  pub entries_stand : stands q.entries ≡ stands p.entries
+  pub runs_stand : stands q.runs ≡ stands p.runs
+  pub saved_stand : stands q.saved ≡ stands p.saved

@@ -1,5 +1,5 @@
 ghost use Rattle.std.specs.Prelude.{◌≡◌, ◌≤◌, length};
-ghost use Rattle.journal.specs.Entering.{Holds, entry_for};
+ghost use Rattle.journal.specs.Entering.{Cleared, Holds, entry_for};
 
 use layout::side::Side;
 use moves::store::Store;
@@ -80,6 +80,15 @@ impl<'a, T> Parts<'a, T> {
             runs: Store::new(runs),
             saved: Store::new(saved),
         }
+    }
+
+    // Forgets all entries, runs and saved cells.
+    pub fn clear(&mut self)
+        ensures { Cleared self.old self.new }
+    {
+        self.entries.clear();
+        self.runs.clear();
+        self.saved.clear();
     }
 
     // The entry of a change that is about to be made, with so many runs and saved cells of its own.

@@ -49,6 +49,17 @@ pub fn ask_span<L: Layout>(layout: &L, places: usize) -> Result<(), Refusal>
     Ok(())
 }
 
+// Puts questions 4 and 10, of a copy of the layout's table, from so many places to so many.
+pub fn ask_clone<L: Layout>(layout: &L, source: usize, cells: usize) -> Result<(), Refusal>
+    ensures { Checked (clone_rules (L.grid layout.now) source cells) result }
+{
+    let (rows, columns) = layout.shape();
+    if rows as usize * columns as usize > cells {
+        return Err(Refusal::TooManyCells);
+    }
+    ask_span(layout, source)
+}
+
 // The cell of a row and a column, in a buffer that reaches the span.
 pub fn read<L: Layout, T: Copy>(layout: &L, buffer: &[T], row: u32, column: u32) -> T
     requires inside { (row < (L.grid layout.now).rows) × (column < (L.grid layout.now).columns) }
@@ -96,11 +107,8 @@ pub fn clone_owned<L: Layout, T: Copy>(
     ensures answer { Checked (clone_rules (L.grid layout.now) (length source.now) (length cells.old)) result }
     ensures after { MatchResult result (λ _. Cloned (L.grid layout.now) source.now cells.old cells.new (L.grid layout.now).columns) (λ _. cells.new ≡ cells.old) }
 {
+    ask_clone(layout, source.len(), cells.len())?;
     let (rows, columns) = layout.shape();
-    if rows as usize * columns as usize > cells.len() {
-        return Err(Refusal::TooManyCells);
-    }
-    ask_span(layout, source.len())?;
     for c in 0..columns {
         clone_column(layout, source, cells, rows, c);
     }

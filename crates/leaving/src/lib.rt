@@ -25,7 +25,5 @@ pub fn settle<T>(p: &mut Parts<'_, T>)
     requires { Held p.old }
     ensures { Answers p.old p.new settle (Ok tt) }
 {
-    p.entries.clear();
-    p.runs.clear();
-    p.saved.clear();
+    p.clear();
 }

@@ -1,6 +1,6 @@
 // The runs of the lines that a list names.
 ghost use Rattle.std.specs.Prelude.{◌≡◌, ℕ, ◌+◌, ◌*◌, ◌<◌, ◌≤◌, ◌++◌, false, map, length, slice_index_or, sum_by};
-ghost use Rattle.moves.specs.Stores.{items, room};
+ghost use Rattle.moves.specs.Stores.{Kept, items, room};
 ghost use Rattle.model.specs.Sheet.{listed};
 ghost use Rattle.model.specs.Journal.{runs_from};
 ghost use Rattle.journal.specs.View.{run_of};
@@ -26,7 +26,7 @@ fn mark_listed(list: &[u32], marks: &mut [bool])
 fn find_runs(marks: &[bool], runs: &mut Store<'_, Run>)
     requires { (length marks.now + 2 * length (items runs.old) ≤ 2 * room runs.old) × (length marks.now ≤ 4096) }
     ensures found { map run_of (items runs.new) ≡ map run_of (items runs.old) ++ runs_from (marked marks.now) 0 (length marks.now) }
-    ensures same { room runs.new ≡ room runs.old }
+    ensures kept { Kept runs.old runs.new }
 {
     let mut at = 0;
     for alike in marks.chunk_by(|a, b| a == b) {
@@ -44,7 +44,7 @@ fn find_runs(marks: &[bool], runs: &mut Store<'_, Run>)
 pub fn find_listed(list: &[u32], count: usize, runs: &mut Store<'_, Run>)
     requires { (count + 2 * length (items runs.old) ≤ 2 * room runs.old) × (count ≤ 4096) }
     ensures found { map run_of (items runs.new) ≡ map run_of (items runs.old) ++ runs_from (listed list.now) 0 count }
-    ensures same { room runs.new ≡ room runs.old }
+    ensures kept { Kept runs.old runs.new }
 {
     let mut table = [false; 4096];
     let marks = &mut table[..count];

@@ -1,6 +1,6 @@
 // Rows put into and taken out of a table that lies column by column at the start of a buffer: the cell of row r and
 // column c is at r + c * rows. The lines of either side are such rows.
-ghost use Rattle.std.specs.Prelude.{◌≡◌, ◌+◌, ◌-◌, ◌*◌, ◌≤◌, length};
+ghost use Rattle.std.specs.Prelude.{◌+◌, ◌-◌, ◌*◌, ◌≤◌, length};
 ghost use Rattle.moves.specs.Blocks.{Inside, Opens, SameShape, Shaped, block_in, cells_of, count_of};
 ghost use Rattle.moves.specs.Stores.{Kept, items, room};
 ghost use Rattle.moves.specs.Tables.{Compressed, Extended, Inserted, Opened, Put, Restored, RowsFilled, Saved};

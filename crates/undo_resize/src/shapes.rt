@@ -1,5 +1,6 @@
 // A table given its former shape: the cells that it has no place for now come back from another buffer.
-ghost use Rattle.std.specs.Prelude.{◌≡◌, ◌-◌, ◌*◌, ◌≤◌, min, length};
+ghost use Rattle.std.specs.Prelude.{◌-◌, ◌*◌, ◌≤◌, min, length};
+ghost use Rattle.moves.specs.Blocks.{SameShape};
 ghost use Rattle.undo_resize.specs.Back.{RowsBack, ShapeBack};
 
 use moves::blocks::copy_block;

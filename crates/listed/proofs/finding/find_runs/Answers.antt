@@ -2,7 +2,8 @@ use Rattle.std.proofs.Common.{rules, ◌++◌, true, map, length, drop, sym, ap,
 use mathlib.Core.Bool.{beq}
 use Rattle.std.specs.List.{IsChunkByPrefix}
 use Rattle.std.proofs.lemmas.Fn.{always_returns_same}
-use Rattle.moves.specs.Stores.{items, room}
+use Rattle.moves.specs.Stores.{items}
+use Rattle.moves.proofs.Saves.{grown_long, kept_on}
 use Rattle.journal.specs.View.{run_of}
 use Rattle.listed.proofs.Walks.{Part, part_clear, part_ends, part_first, part_inside, part_rest, part_run, run_written}
 use Rattle.listed.proofs.finding.find_runs.Goals.{then-alike, else-alike}
@@ -43,7 +44,7 @@ loop-alike-preserved c =
             few = omega arith;
             apart = λ h e. absurd (part_ends s longest true w.if-alike.true h e);
             found = rw w.runs-is (run_written _ _ _ (length part) _ _ _ more (part_run s longest w.if-alike.true) i.found);
-            same = ap room w.runs-is ∙ w.push.ensures.kept.room ∙ i.same;
+            kept = rw w.runs-is (kept_on _ _ _ i.kept (grown_long _ _ _ w.push.ensures) w.push.ensures.kept);
           }
       | else-alike w ↦
           let many = ap (λ runs. length (items runs)) w.runs-is in record {
@@ -52,6 +53,6 @@ loop-alike-preserved c =
             few = omega arith;
             apart = λ h e. omega arith;
             found = rw w.runs-is (ap (λ zs. map run_of (items c.loop-alike.runs) ++ zs) (sym (part_clear s longest w.if-alike.false)) ∙ i.found);
-            same = ap room w.runs-is ∙ i.same;
+            kept = rw w.runs-is i.kept;
           }
     ]

@@ -1,6 +1,6 @@
 use Rattle.std.proofs.Common.{◌≡◌, ◌+◌, ◌-◌, ◌*◌, ◌<◌, ◌≤◌, true, ◌++◌, map, length, drop}
 use Rattle.std.specs.Slice.Iter.{chunk_by_rest}
-use Rattle.moves.specs.Stores.{items, room}
+use Rattle.moves.specs.Stores.{Kept, items}
 use Rattle.model.specs.Journal.{runs_from}
 use Rattle.journal.specs.View.{run_of}
 use Rattle.listed.specs.Runs.{marked}
@@ -16,5 +16,5 @@ invariant-loop-alike l = record {
   found :
       map run_of (items l.runs) ++ runs_from (marked l.marks) l.at (length l.marks - l.at)
       ≡ map run_of (items l.initial.runs) ++ runs_from (marked l.marks) 0 (length l.marks);
-  same : room l.runs ≡ room l.initial.runs;
+  kept : Kept l.initial.runs l.runs;
 }
