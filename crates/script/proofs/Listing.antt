@@ -1,12 +1,15 @@
 -- What reading the words of a line keeps.
-use Rattle.std.proofs.Common.{◌≡◌, ℕ, suc, ◌+◌, ◌-◌, ◌<◌, ◌≤◌, true, false, cond, eqb, List, [], ◌∷◌, ◌++◌, length, take, set, replicate, Some, None, Err, Option, Result, unwrap_or, sym, refl, ap, ◌∙◌, append_assoc, arith}
+use Rattle.std.proofs.Common.{◌≡◌, ℕ, suc, ◌+◌, ◌-◌, ◌<◌, ◌≤◌, true, false, cond, eqb, Bor, List, [], ◌∷◌, ◌++◌, length, take, drop, set, replicate, Some, None, Err, Option, Result, sym, refl, ap, ◌∙◌, append_assoc, length-append, arith}
+use Rattle.std.specs.Iterator.{Yields}
 use Rattle.std.specs.List.{onto_first}
-use Rattle.std.proofs.lemmas.List.{length-take-le, length-set, take_more_set, set_at}
+use Rattle.std.specs.Option.{option_map}
+use Rattle.std.proofs.lemmas.Iterator.{YieldsList}
+use Rattle.std.proofs.lemmas.Iterator.Consumers.{YieldsList-turn, YieldsList-end}
+use Rattle.std.proofs.lemmas.List.{length-take-le, length-set, take_more_set, set_at, drop_more, drop_all}
 use Rattle.layout.specs.declared.refusal.Refusal.TheVariants.{BadNumber}
 use Rattle.script.specs.declared.command.Numbers.{Numbers}
 use Rattle.script.specs.declared.command.Fault.{Fault}
 use Rattle.script.specs.Numerals.{numeral}
-use Rattle.script.specs.Tokens.{Part, number, part_value, next_part}
 use Rattle.script.specs.Words.{front, behind, parts, parts_of, further}
 use Rattle.script.specs.Commands.{read_on, fault}
 
@@ -16,9 +19,6 @@ parts_at c [] = refl
 parts_at c (b ∷ bs) =
     elim (eqb b c) as (λ t. cond t ([] ∷ parts c bs) (onto_first b (parts c bs)) ≡ cond t [] (b ∷ front c bs) ∷ parts_of c (cond t (Some bs) (behind c bs)))
     [ true ↦ refl | false ↦ ap (onto_first b) (parts_at c bs) ]
-
-abbrev pub parts_cut : (bs : List ℕ) → parts 32 bs ≡ front 32 bs ∷ further (behind 32 bs)
-parts_cut = parts_at 32
 
 -- at holds count numbers, before zeros
 pub record Packed (at : List ℕ) (count : ℕ) : Type 0 where
@@ -67,14 +67,20 @@ module _ (all ws more : List (List ℕ)) (w at : List ℕ) (count : ℕ) (f : ws
       ap (λ k. Err (fault BadNumber (k + 2))) (sym (taken at count l.packs))
       ∙ ap (λ o. elim o as (λ _. Result Numbers Fault) [ None ↦ Err (fault BadNumber (length (take count at) + 2)) | Some m ↦ read_on (take count at ++ m ∷ []) more ]) e ∙ words
 
--- a token is read from the first of the words that are left
-pub record Next (ws more : List (List ℕ)) (p : Part) : Type 0 where
-  pub word : List ℕ
-  pub first : ws ≡ word ∷ more
-  pub value : part_value p ≡ numeral word
+-- the words behind the xs that a loop has yielded
+abbrev pub unread : Option (Bor (List ℕ)) → List (Bor (List ℕ)) → List (List ℕ)
+unread o xs = drop (length xs) (further (option_map (λ x. x.now) o))
 
-pub next_word : (o q : Option (List ℕ)) (p : Part) → ◌≡◌ {A = Option (Part × Option (List ℕ))} (Some (p, q)) (next_part o) → Next (further o) (further q) p
-next_word None q p e = let z : ◌≡◌ {A = ℕ} 0 1 = cc in absurd (omega arith)
-next_word (Some bs) q p e =
-    let same : ◌≡◌ {A = Part × Option (List ℕ)} (p, q) (number (front 32 bs), behind 32 bs) = ap (λ o. unwrap_or o (p, q)) e in
-    record { word = front 32 bs; first = parts_cut bs ∙ ap (λ x. front 32 bs ∷ further x.1) (sym same); value = ap (λ x. part_value x.0) same }
+-- a loop over the words of o has yielded xs, and next yields r
+module _ {o : Option (Bor (List ℕ))} {text : Bor (List ℕ)} (is : o ≡ Some text) where
+  same_words : further (option_map (λ x. x.now) o) ≡ parts 32 text.now
+  same_words = ap (λ q. further (option_map (λ x. x.now) q)) is
+
+  module _ {S : Type 0} {steps : S → Option (Bor (List ℕ)) → S → Type 0} {s t u : S} {r : Option (Bor (List ℕ))} (words : YieldsList steps (λ x. x.now) s (parts 32 text.now)) (xs : List (Bor (List ℕ))) (so_far : Yields steps s xs t) (step : steps t r u) where
+    pub next_word : {x : Bor (List ℕ)} → r ≡ Some x → unread o xs ≡ x.now ∷ unread o (xs ++ x ∷ [])
+    next_word {x} some =
+        let turn = YieldsList-turn words xs t so_far r u x some step in
+        ap (drop (length xs)) same_words ∙ drop_more (parts 32 text.now) (length xs) x.now turn.0 ∙ (λ i. sym turn.1 i ∷ drop (sym (length-append xs (x ∷ [])) i) (sym same_words i))
+
+    pub no_word : r ≡ None → unread o xs ≡ []
+    no_word none = drop_all (length xs) _ (omega (arith, (YieldsList-end words xs t so_far r u none step).1, ap length same_words))

@@ -10,7 +10,8 @@ ghost use Rattle.script.specs.Commands.{fault, fewest, most, takes, lives, read_
 ghost use Rattle.script.specs.Verbs.{verb_named, side_of};
 ghost use Rattle.script.specs.Words.{further};
 
-use crate::token::{Token, first_token, next_token};
+use crate::number::number;
+use crate::token::{Token, first_token};
 use layout::refusal::Refusal;
 use layout::side::Side;
 
@@ -187,17 +188,16 @@ fn numbers_of(words: Option<&[u8]>) -> Result<Numbers, Fault>
     requires { length (further (option_map (λ x. x.now) words)) ≤ 16 }
     ensures { result ≡ read_on [] (further (option_map (λ x. x.now) words.entry)) }
 {
-    // `next_token` hands back the words that are left; an iterator made for this loop alone would be no plainer.
-    let mut rest = words;
     let mut at = [0; 16];
     let mut count = 0;
-    while let Some((token, after)) = next_token(rest) {
-        at[count] = token.value().ok_or(Fault {
-            refusal: Refusal::BadNumber,
-            word: count + 2,
-        })?;
-        count += 1;
-        rest = after;
+    if let Some(text) = words {
+        for word in text.split(|b| *b == b' ') {
+            at[count] = number(word).ok_or(Fault {
+                refusal: Refusal::BadNumber,
+                word: count + 2,
+            })?;
+            count += 1;
+        }
     }
     Ok(Numbers { at, count })
 }
