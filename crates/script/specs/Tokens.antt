@@ -1,7 +1,5 @@
 -- What a token of a line says.
-use Rattle.std.specs.Prelude.{ℕ, cond, List, [], ◌∷◌, Some, None, Option, ◌==◌}
-use Rattle.std.specs.Borrow.{Bor}
-use Rattle.std.specs.Option.{option_map}
+use Rattle.std.specs.Prelude.{ℕ, cond, List, [], ◌∷◌, None, Option, ◌==◌}
 use Rattle.script.specs.declared.token.Token.{Token}
 use Rattle.script.specs.declared.token.Token.TheVariants.{Command, Number, Remark}
 use Rattle.script.specs.Numerals.{numeral}
@@ -31,12 +29,3 @@ first_part (b ∷ bs) = cond (b == 35) (remark bs) (command (front 32 (b ∷ bs)
 abbrev pub after_first : List ℕ → Option (List ℕ)
 after_first [] = None
 after_first (b ∷ bs) = cond (b == 35) None (behind 32 (b ∷ bs))
-
--- a token and the words behind it
-abbrev pub seen : Token × Option (Bor (List ℕ)) → Part × Option (List ℕ)
-seen p = (part_of p.0, option_map (λ x. x.now) p.1)
-
--- of the words behind a command, each is a number
-abbrev pub next_part : Option (List ℕ) → Option (Part × Option (List ℕ))
-next_part None = None
-next_part (Some bs) = Some (number (front 32 bs), behind 32 bs)

@@ -10,7 +10,6 @@ ghost use Rattle.script.specs.Commands.{fault, fewest, most, takes, lives, read_
 ghost use Rattle.script.specs.Verbs.{verb_named, side_of};
 ghost use Rattle.script.specs.Words.{further};
 
-use crate::number::number;
 use crate::token::{Token, first_token};
 use layout::refusal::Refusal;
 use layout::side::Side;
@@ -192,7 +191,7 @@ fn numbers_of(words: Option<&[u8]>) -> Result<Numbers, Fault>
     let mut count = 0;
     if let Some(text) = words {
         for word in text.split(|b| *b == b' ') {
-            at[count] = number(word).ok_or(Fault {
+            at[count] = Token::Number(word).value().ok_or(Fault {
                 refusal: Refusal::BadNumber,
                 word: count + 2,
             })?;

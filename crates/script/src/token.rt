@@ -1,7 +1,7 @@
 // Takes a line apart into tokens.
 ghost use Rattle.std.specs.Prelude.{◌≡◌};
 ghost use Rattle.std.specs.Option.{option_map};
-ghost use Rattle.script.specs.Tokens.{part_of, first_part, after_first, seen, next_part, part_value};
+ghost use Rattle.script.specs.Tokens.{part_of, first_part, after_first, part_value};
 
 use crate::number::number;
 use crate::words::cut;
@@ -38,14 +38,4 @@ pub fn first_token(line: &[u8]) -> (Token<'_>, Option<&[u8]>)
             (Token::Command(word), rest)
         }
     }
-}
-
-// The first of the words behind a command, as a number token, and the words behind that. An empty text is still a word:
-// it stands behind a blank.
-pub fn next_token(words: Option<&[u8]>) -> Option<(Token<'_>, Option<&[u8]>)>
-    ensures { option_map seen result ≡ next_part (option_map (λ x. x.now) words.entry) }
-{
-    let text = words?;
-    let (word, rest) = cut(text, b' ');
-    Some((Token::Number(word), rest))
 }

@@ -11,7 +11,7 @@ next c =
 
 pub returns-in_err-at : goal.returns-in_err-at
 returns-in_err-at c =
-    let bad = left_bad _ _ _ _ _ _ (next (goal.at.returns-in_err-at c).In-Some-word) c.loop-word.invariant (sym c.in_err-at.ensures.ok_part ∙ c.number.ensures) in
+    let bad = left_bad _ _ _ _ _ _ (next (goal.at.returns-in_err-at c).In-Some-word) c.loop-word.invariant (sym c.in_err-at.ensures.ok_part ∙ c.value.ensures) in
     let e = c.in_err-at.ensures.value in
     search rules
 
@@ -19,7 +19,7 @@ pub bounds-at-count : goal.bounds-at-count
 bounds-at-count c = left_room _ _ _ _ _ _ (next (goal.at.bounds-at-count c).In-Some-word) c.loop-word.invariant
 
 pub loop-word-preserved : goal.loop-word-preserved
-loop-word-preserved c = left_more _ _ _ _ _ _ (next (goal.at.loop-word-preserved c).In-Some-word) c.loop-word.invariant _ (sym c.in_ok-at.ensures.ok_part ∙ c.number.ensures)
+loop-word-preserved c = left_more _ _ _ _ _ _ (next (goal.at.loop-word-preserved c).In-Some-word) c.loop-word.invariant _ (sym c.in_ok-at.ensures.ok_part ∙ c.value.ensures)
 
 pub returns-in-None : goal.returns-in-None
 returns-in-None c =
