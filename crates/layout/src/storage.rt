@@ -1,7 +1,7 @@
 // A layout: a shape, a span, and a place below the span for each cell of the shape.
 ghost use Rattle.std.specs.Prelude.{◌≡◌, ◌+◌, ◌*◌, ◌<◌, ◌≤◌, [], ◌∷◌, length, MatchResult};
 ghost use Rattle.layout.specs.Cells.{Cloned, ColumnCloned, clone_rules};
-ghost use Rattle.layout.specs.Checks.{Checked, few_lines, reaches};
+ghost use Rattle.layout.specs.Checks.{Checked, Passes, few_lines, reaches};
 ghost use Rattle.layout.specs.Lawful.{Grid, Lawful};
 ghost use Rattle.layout.specs.Written.{Written, cell_of};
 
@@ -98,7 +98,18 @@ fn clone_column<L: Layout, T: Copy>(
     }
 }
 
-// Copies a layout's table, column by column, to the start of a buffer. Puts questions 4 and 10.
+// Copies a layout's table, column by column, to the start of a buffer that has room for it.
+pub fn clone_cells<L: Layout, T: Copy>(layout: &L, source: &[T], cells: &mut [T])
+    requires { Passes (clone_rules (L.grid layout.now) (length source.now) (length cells.old)) }
+    ensures { Cloned (L.grid layout.now) source.now cells.old cells.new (L.grid layout.now).columns }
+{
+    let (rows, columns) = layout.shape();
+    for c in 0..columns {
+        clone_column(layout, source, cells, rows, c);
+    }
+}
+
+// The same for any buffer. Puts questions 4 and 10.
 pub fn clone_owned<L: Layout, T: Copy>(
     layout: &L,
     source: &[T],
@@ -108,9 +119,6 @@ pub fn clone_owned<L: Layout, T: Copy>(
     ensures after { MatchResult result (λ _. Cloned (L.grid layout.now) source.now cells.old cells.new (L.grid layout.now).columns) (λ _. cells.new ≡ cells.old) }
 {
     ask_clone(layout, source.len(), cells.len())?;
-    let (rows, columns) = layout.shape();
-    for c in 0..columns {
-        clone_column(layout, source, cells, rows, c);
-    }
+    clone_cells(layout, source, cells);
     Ok(())
 }

@@ -1,10 +1,9 @@
 -- Opening a sheet, and reading a cell.
-use Rattle.std.specs.Prelude.{◌≡◌, ℕ, ◌<◌, ◌≤◌, List, [], ◌∷◌, ◌++◌, length, take, drop, Some, None, Option}
+use Rattle.std.specs.Prelude.{◌≡◌, ℕ, ◌<◌, ◌≤◌, List, [], ◌∷◌, length, take, drop, Some, None, Option}
 use Rattle.std.specs.List.{flat_map}
 use Rattle.layout.specs.declared.refusal.Refusal.{Refusal}
 use Rattle.layout.specs.Lawful.{Grid}
-use Rattle.layout.specs.Cells.{Cloned, clone_rules}
-use Rattle.moves.specs.declared.vec_storage.Table as moves
+use Rattle.layout.specs.Cells.{clone_rules}
 use Rattle.layout.specs.Checks.{Rule, ◌else◌, few_lines}
 use Rattle.model.specs.Sheet.{Table, cell_at}
 use Rattle.model.specs.Journal.{Room, places}
@@ -28,24 +27,14 @@ room cells entries runs saved = record { for_cells = cells; for_entries = entrie
 abbrev pub room_in : {A E R : Type 0} → List A → List E → List R → List A → Room
 room_in cells entries runs saved = room (length cells) (length entries) (length runs) (length saved)
 
--- what opening asks of the buffers and of the shape
-abbrev pub size_rules : Grid → Room → List Rule
-size_rules grid r =
+-- what opening asks: of the buffers, of the shape, of the cells, and of the source, which has so many cells
+abbrev pub opening_rules : Grid → ℕ → Room → List Rule
+opening_rules grid source r =
     (((r.for_cells ≤ 65536) × (r.for_entries ≤ 4096) × (r.for_runs ≤ 32768) × (r.for_saved ≤ 65536)) else Refusal.BufferTooLarge)
     ∷ few_lines grid.rows grid.columns
-    ∷ []
-
--- and then of the cells, and of the source, which has so many
-abbrev pub opening_rules : Grid → ℕ → Room → List Rule
-opening_rules grid source r = size_rules grid r ++ clone_rules grid source r.for_cells
+    ∷ clone_rules grid source r.for_cells
 
 -- the cell if it is in the shape, else nothing
 abbrev pub Read : {A : Type 0} → Table A → ℕ → ℕ → Option A → Type 0
 Read t row column (Some x) = (row < t.rows) × (column < t.columns) × (cell_at t row column ≡ x ∷ [])
 Read t row column None = (row < t.rows) × (column < t.columns) → ⊥
-
--- u has the layout's table, and t's cells behind it
-pub record Copied {A : Type 0} (grid : Grid) (xs : List A) (t u : moves.Table A) : Type 0 where
-  pub cells : Cloned grid xs t.cells.now u.cells.now grid.columns
-  pub rows : u.rows ≡ grid.rows
-  pub columns : u.columns ≡ grid.columns

@@ -28,7 +28,12 @@ impl<'a, T: Copy> Sheet<'a, T> {
     ) -> Result<(), Refusal>
         ensures { Checked (opening_rules (L.grid layout.now) (length source.now) (room_in cells.now entries.now runs.now saved.now)) result }
     {
-        let sizes = Sizes::of(cells, entries, runs, saved);
+        let sizes = Sizes {
+            cells: cells.len(),
+            entries: entries.len(),
+            runs: runs.len(),
+            saved: saved.len(),
+        };
         opening::ask_opening(layout, source.len(), sizes)
     }
 
@@ -44,10 +49,9 @@ impl<'a, T: Copy> Sheet<'a, T> {
         ensures which { Checked (opening_rules (L.grid layout.now) (length source.now) (room_in cells.old entries.old runs.old saved.old)) result }
         ensures made { IfOk result (λ s. view s.parts ≡ opened (table_in (L.grid layout.now) source.now) (room_in cells.old entries.old runs.old saved.old)) }
     {
-        let sizes = Sizes::of(cells, entries, runs, saved);
-        opening::ask_sizes(layout, sizes)?;
+        Sheet::check(layout, source, cells, entries, runs, saved)?;
         let mut parts = Parts::new(cells, entries, runs, saved);
-        opening::fill(&mut parts, layout, source)?;
+        opening::fill(&mut parts, layout, source);
         Ok(Sheet { parts })
     }
 

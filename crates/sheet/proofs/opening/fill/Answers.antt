@@ -1,7 +1,7 @@
-use Rattle.std.proofs.Common.{◌*◌, map, reverse, length, take, ap, ◌∙◌, ap₂}
+use Rattle.std.proofs.Common.{◌*◌, take, refl, ap, ◌∙◌, ap₂}
 use Rattle.model.specs.Journal.{opened}
-use Rattle.journal.specs.View.{entry_of, room_of, run_of}
-use Rattle.journal.proofs.Answering.{same_sheet, same_room}
+use Rattle.journal.specs.View.{room_of}
+use Rattle.journal.proofs.Answering.{cleared, same_sheet, same_room}
 use Rattle.sheet.specs.Opening.{table_in}
 use Rattle.sheet.proofs.Openings.{cloned_cells}
 use Rattle.sheet.proofs.opening.fill.Goals as goal
@@ -10,7 +10,7 @@ pub returns : goal.returns
 returns g c =
     let grid = g.L.Layout.grid c.args.layout.now in
     let h = c.copy_table.ensures in
-    same_sheet _ (opened (table_in grid c.args.source.now) (room_of c.args.p.now)) h.shape.0 h.shape.1
-    (ap (λ k. take k c.copy_table.new.table.cells.now) (ap₂ ◌*◌ h.shape.0 h.shape.1) ∙ cloned_cells grid (g.L.Layout.lawful c.args.layout.now) c.args.source.now c.requires.0 _ _ c.requires.1 h.cells)
-    (ap (λ zs. map entry_of (reverse zs)) c.clear.ensures.empty) (ap (map run_of) c.clear-2.ensures.empty) c.clear-3.ensures.empty
-    (same_room _ _ _ _ _ _ _ _ h.cells.long (ap length c.clear.ensures.same) (ap length c.clear-2.ensures.same) (ap length c.clear-3.ensures.same))
+    cleared _ _ c.clear.ensures
+    ∙ same_sheet _ (opened (table_in grid c.args.source.now) (room_of c.args.p.now)) h.shape.0 h.shape.1
+    (ap (λ k. take k c.copy_table.new.table.cells.now) (ap₂ ◌*◌ h.shape.0 h.shape.1) ∙ cloned_cells grid (g.L.Layout.lawful c.args.layout.now) c.args.source.now c.requires.1.0 _ _ c.requires.0 h.cells)
+    refl refl refl (same_room _ _ _ _ _ _ _ _ h.cells.long refl refl refl)

@@ -1,7 +1,7 @@
 use Rattle.std.proofs.Common.{subst}
 use Rattle.layout.specs.Cells.{ColumnCloned}
 use Rattle.layout.proofs.Cloning.{cloned_more}
-use Rattle.layout.proofs.storage.clone_owned.Goals as goal
+use Rattle.layout.proofs.storage.clone_cells.Goals as goal
 
 pub loop-c-preserved : goal.loop-c-preserved
 loop-c-preserved g c =
