@@ -125,6 +125,7 @@ pub fn insert_rows<T: Copy>(cells: &mut [T], b: Block, v: T)
     fill_rows(cells, b.grown(), v);
 }
 
+// Side, place and count come one by one, as in a sheet's calls; here they become a `Block`.
 impl<'a, T: Copy> Table<'a, T> {
     // Copies n lines at i to a store, column by column.
     pub fn save_lines(&self, side: Side, i: u32, n: u32, saved: &mut Store<'_, T>)

@@ -1,3 +1,2 @@
-pub mod Cells
 pub mod Openings
 pub mod Gapping

@@ -11,7 +11,7 @@ use journal::parts::{Entry, Parts};
 use layout::side::Side;
 use leaving::leave;
 
-// Takes back the newest change, which put in n lines of the side before line i.
+// Takes back the newest change, which put in n lines of the side before line i: the three as its note has them.
 pub fn undo_insert<T: Copy>(p: &mut Parts<'_, T>, entry: Entry, side: Side, i: u32, n: u32)
     requires held { Held p.old }
     requires newest { Newest p.old entry }

@@ -55,7 +55,8 @@ impl<'a, T: Copy> Sheet<'a, T> {
         Ok(Sheet { parts })
     }
 
-    // The same sheet; where the check refuses, 0 × 0 over empty buffers.
+    // The same sheet; where the check refuses, 0 × 0 over empty buffers. With `unwrap_or_else`, or a `match` that gives
+    // the sheet, the buffers do not live long enough for the checker.
     pub fn open<L: Layout>(
         layout: &L,
         source: &[T],
@@ -136,7 +137,8 @@ impl<'a, T: Copy> Sheet<'a, T> {
         self.parts.saved.as_slice()
     }
 
-    // Puts in n lines of v before line i.
+    // Puts in n lines of v before line i. Beside this call and the next ones, which are over a side, stand those of the
+    // Rust's names.
     pub fn insert_lines(&mut self, side: Side, i: u32, n: u32, v: T) -> Result<(), Refusal>
         ensures { Answers self.old.parts self.new.parts (change (insert_lines (side_of side) i n v)) result }
     {

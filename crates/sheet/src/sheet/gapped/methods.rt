@@ -50,10 +50,9 @@ impl<'a, T: Copy> Gapped<'a, T> {
             count,
             answer,
         } = self;
-        let Ok(()) = answer else {
-            return Sheet { parts };
-        };
-        filling::fill_gap(&mut parts, side, at, count, list, v);
+        if answer.is_ok() {
+            filling::fill_gap(&mut parts, side, at, count, list, v);
+        }
         Sheet { parts }
     }
 }
