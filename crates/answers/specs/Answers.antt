@@ -25,19 +25,19 @@ abbrev pub row_text : List ℕ → List ℕ
 row_text [] = 10 ∷ []
 row_text (x ∷ xs) = decimal x ++ (spaced xs ++ 10 ∷ [])
 
--- what is said of a shape and of a no, before the line feed
+-- what is said of a shape, and of the no to question k at a line and a word
 abbrev pub shape_words : ℕ → ℕ → List ℕ
 shape_words rows columns = codes "ok" ++ (field rows ++ field columns)
 
-abbrev pub no_words : ℕ → ℕ → Refusal → List ℕ
-no_words line word r = codes "no" ++ (field line ++ (field word ++ (32 ∷ letter_of r ∷ field (number_of r))))
+abbrev pub no_words : ℕ → ℕ → ℕ → List ℕ
+no_words line word k = codes "no" ++ (field line ++ (field word ++ (32 ∷ letter_for k ∷ field k)))
 
+-- the same with a line feed
 abbrev pub done_text : ℕ → ℕ → List ℕ
-done_text rows columns = codes "ok" ++ (field rows ++ (field columns ++ 10 ∷ []))
+done_text rows columns = shape_words rows columns ++ 10 ∷ []
 
--- the no to question k, at a line and a word
 abbrev pub no_text : ℕ → ℕ → ℕ → List ℕ
-no_text line word k = codes "no" ++ (field line ++ (field word ++ (32 ∷ letter_for k ∷ (field k ++ 10 ∷ []))))
+no_text line word k = no_words line word k ++ 10 ∷ []
 
 abbrev pub refused_text : ℕ → ℕ → Refusal → List ℕ
 refused_text line word r = no_text line word (number_of r)

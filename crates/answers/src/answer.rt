@@ -1,6 +1,7 @@
 // Writes answers and rows as bytes.
 ghost use Rattle.std.specs.Prelude.{◌≡◌, ◌+◌, ◌*◌, ◌++◌, Some, map, OnOk, slice_index};
 ghost use Rattle.std.specs.List.{range_with_len};
+ghost use Rattle.layout.specs.Refusals.{number_of};
 ghost use Rattle.answers.specs.Answers.{letter_of, row_text, shape_words, no_words, answer_text};
 
 use layout::refusal::Refusal;
@@ -47,7 +48,7 @@ impl fmt::Display for Done {
 }
 
 impl fmt::Display for Refused {
-    ghost output = { λ r. Some (no_words r.line r.word r.refusal) };
+    ghost output = { λ r. Some (no_words r.line r.word (number_of r.refusal)) };
 
     fn fmt<W: fmt::Write>(&self, f: &mut fmt::Formatter<W>) -> fmt::Result {
         let letter = letter(self.refusal) as char;
