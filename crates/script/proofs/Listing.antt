@@ -1,10 +1,11 @@
 -- What reading the words of a line keeps.
-use Rattle.std.proofs.Common.{◌≡◌, ℕ, suc, ◌+◌, ◌-◌, ◌<◌, ◌≤◌, true, false, cond, eqb, Bor, List, [], ◌∷◌, ◌++◌, length, take, drop, set, replicate, Some, None, Err, Option, Result, sym, refl, ap, ◌∙◌, append_assoc, length-append, arith}
+use Rattle.std.proofs.Common.{◌≡◌, ℕ, suc, ◌+◌, ◌-◌, ◌<◌, ◌≤◌, true, false, cond, eqb, Bor, List, [], ◌∷◌, ◌++◌, length, take, drop, set, replicate, Some, None, Ok, Err, Option, Result, sym, refl, subst, ap, ◌∙◌, append_assoc, arith}
 use Rattle.std.specs.Iterator.{Yields}
-use Rattle.std.specs.List.{onto_first}
+use Rattle.std.specs.List.{onto_first, enumerate_from}
 use Rattle.std.specs.Option.{option_map}
 use Rattle.std.proofs.lemmas.Iterator.{YieldsList}
 use Rattle.std.proofs.lemmas.Iterator.Consumers.{YieldsList-turn, YieldsList-end}
+use Rattle.std.proofs.lemmas.List.FromFn.{length-enumerate_from, get_or-enumerate_from}
 use Rattle.std.proofs.lemmas.List.{length-take-le, length-set, take_more_set, set_at, drop_more, drop_all}
 use Rattle.layout.specs.declared.refusal.Refusal.TheVariants.{BadNumber}
 use Rattle.script.specs.declared.command.Numbers.{Numbers}
@@ -26,11 +27,16 @@ pub record Packed (at : List ℕ) (count : ℕ) : Type 0 where
   pub long : length at ≡ 16
   pub few : count ≤ 16
 
--- the words ws are still to be read
-pub record Left (all ws : List (List ℕ)) (at : List ℕ) (count : ℕ) : Type 0 where
-  pub same : read_on (take count at) ws ≡ read_on [] all
-  pub room : count + length ws ≤ 16
+-- the first count words are read, and their numbers lie in at
+pub record Read (all : List (List ℕ)) (at : List ℕ) (count : ℕ) : Type 0 where
+  pub same : read_on (take count at) (drop count all) ≡ read_on [] all
   pub packs : Packed at count
+
+-- the word w at count is next, and k says its place
+pub record Next (all : List (List ℕ)) (w : List ℕ) (k count : ℕ) : Type 0 where
+  pub place : k ≡ count
+  pub room : count < length all
+  pub word : drop count all ≡ w ∷ drop (count + 1) all
 
 module _ (at : List ℕ) (count : ℕ) (p : Packed at count) where
   taken : length (take count at) ≡ count
@@ -46,41 +52,50 @@ module _ (at : List ℕ) (count : ℕ) (p : Packed at count) where
         few = omega arith;
       }
 
-module _ (all ws more : List (List ℕ)) (w at : List ℕ) (count : ℕ) (f : ws ≡ w ∷ more) (l : Left all ws at count) where
-  words : read_on (take count at) (w ∷ more) ≡ read_on [] all
-  words = ap (read_on (take count at)) (sym f) ∙ l.same
+module _ (all : List (List ℕ)) (w at : List ℕ) (k count : ℕ) (f : Next all w k count) (few : length all ≤ 16) (l : Read all at count) where
+  words : read_on (take count at) (w ∷ drop (count + 1) all) ≡ read_on [] all
+  words = ap (read_on (take count at)) (sym f.word) ∙ l.same
 
-  pub left_room : count < 16
-  left_room = omega (arith, l.room, ap length f)
+  pub read_room : k < 16
+  read_room = omega (arith, f.place, f.room, few)
 
-  pub left_more : (n : ℕ) → Some n ≡ numeral w → Left all more (set at count n) (count + 1)
-  left_more n e = record {
-    same =
-        ap (λ ns. read_on ns more) (take_more_set at count n (omega (arith, l.packs.long, left_room)))
-        ∙ ap (λ o. elim o as (λ _. Result Numbers Fault) [ None ↦ Err (fault BadNumber (length (take count at) + 2)) | Some m ↦ read_on (take count at ++ m ∷ []) more ]) e ∙ words;
-    room = omega (arith, l.room, ap length f);
-    packs = packed_more at count l.packs n left_room;
-  }
+  pub read_more : (n more : ℕ) → Some n ≡ numeral w → more ≡ count + 1 → Read all (set at k n) more
+  read_more n more e one =
+      subst (λ i. Read all (set at i n) more) (sym f.place) (subst (Read all (set at count n)) (sym one) record {
+        same =
+            ap (λ ns. read_on ns (drop (count + 1) all)) (take_more_set at count n (omega (arith, l.packs.long, f.room, few)))
+            ∙ ap (λ o. elim o as (λ _. Result Numbers Fault) [ None ↦ Err (fault BadNumber (length (take count at) + 2)) | Some m ↦ read_on (take count at ++ m ∷ []) (drop (count + 1) all) ]) e ∙ words;
+        packs = packed_more at count l.packs n (omega (arith, f.room, few));
+      })
 
-  pub left_bad : None ≡ numeral w → ◌≡◌ {A = Result Numbers Fault} (Err (fault BadNumber (count + 2))) (read_on [] all)
-  left_bad e =
-      ap (λ k. Err (fault BadNumber (k + 2))) (sym (taken at count l.packs))
-      ∙ ap (λ o. elim o as (λ _. Result Numbers Fault) [ None ↦ Err (fault BadNumber (length (take count at) + 2)) | Some m ↦ read_on (take count at ++ m ∷ []) more ]) e ∙ words
+  pub read_bad : None ≡ numeral w → ◌≡◌ {A = Result Numbers Fault} (Err (fault BadNumber (k + 2))) (read_on [] all)
+  read_bad e =
+      ap (λ i. Err (fault BadNumber (i + 2))) (f.place ∙ sym (taken at count l.packs))
+      ∙ ap (λ o. elim o as (λ _. Result Numbers Fault) [ None ↦ Err (fault BadNumber (length (take count at) + 2)) | Some m ↦ read_on (take count at ++ m ∷ []) (drop (count + 1) all) ]) e ∙ words
 
--- the words behind the xs that a loop has yielded
-abbrev pub unread : Option (Bor (List ℕ)) → List (Bor (List ℕ)) → List (List ℕ)
-unread o xs = drop (length xs) (further (option_map (λ x. x.now) o))
+-- all words are read
+pub read_all : (all : List (List ℕ)) (at : List ℕ) (count : ℕ) → count ≡ length all → Read all at count → ◌≡◌ {A = Result Numbers Fault} (Ok record { at = at; count = length all }) (read_on [] all)
+read_all all at count e l =
+    ap (λ n. Ok record { at = at; count = n }) (sym e)
+    ∙ ap (λ ns. Ok record { at = ns; count = count }) l.packs.pad
+    ∙ ap (λ n. Ok record { at = take count at ++ replicate (16 - n) 0; count = n }) (sym (taken at count l.packs))
+    ∙ ap (read_on (take count at)) (sym (drop_all count all (omega (arith, e)))) ∙ l.same
 
--- a loop over the words of o has yielded xs, and next yields r
-module _ {o : Option (Bor (List ℕ))} {text : Bor (List ℕ)} (is : o ≡ Some text) where
+-- a loop over the words of o, each with its place, has yielded xs, and next yields r
+module _ {o : Option (Bor (List ℕ))} {text : Bor (List ℕ)} (is : o ≡ Some text) {S : Type 0} {steps : S → Option (ℕ × Bor (List ℕ)) → S → Type 0} {s t u : S} {r : Option (ℕ × Bor (List ℕ))} (words : YieldsList steps (λ p. (p.0, p.1.now)) s (enumerate_from 0 (parts 32 text.now))) (xs : List (ℕ × Bor (List ℕ))) (so_far : Yields steps s xs t) (step : steps t r u) where
   same_words : further (option_map (λ x. x.now) o) ≡ parts 32 text.now
   same_words = ap (λ q. further (option_map (λ x. x.now) q)) is
 
-  module _ {S : Type 0} {steps : S → Option (Bor (List ℕ)) → S → Type 0} {s t u : S} {r : Option (Bor (List ℕ))} (words : YieldsList steps (λ x. x.now) s (parts 32 text.now)) (xs : List (Bor (List ℕ))) (so_far : Yields steps s xs t) (step : steps t r u) where
-    pub next_word : {x : Bor (List ℕ)} → r ≡ Some x → unread o xs ≡ x.now ∷ unread o (xs ++ x ∷ [])
-    next_word {x} some =
-        let turn = YieldsList-turn words xs t so_far r u x some step in
-        ap (drop (length xs)) same_words ∙ drop_more (parts 32 text.now) (length xs) x.now turn.0 ∙ (λ i. sym turn.1 i ∷ drop (sym (length-append xs (x ∷ [])) i) (sym same_words i))
+  pub next_word : {k : ℕ} {x : Bor (List ℕ)} → r ≡ Some (k, x) → Next (further (option_map (λ x. x.now) o)) x.now k (length xs)
+  next_word {k} {x} some =
+      let turn = YieldsList-turn words xs t so_far r u (k, x) some step in
+      let room : length xs < length (parts 32 text.now) = omega (arith, turn.0, length-enumerate_from 0 (parts 32 text.now)) in
+      let at = turn.1 ∙ get_or-enumerate_from 0 (parts 32 text.now) (length xs) (k, x.now) room in
+      subst (λ all. Next all x.now k (length xs)) (sym same_words) record {
+        place = omega (arith, ap (λ p. p.0) at);
+        room = room;
+        word = drop_more (parts 32 text.now) (length xs) x.now room ∙ ap (λ w. w ∷ drop (length xs + 1) (parts 32 text.now)) (sym (ap (λ p. p.1) at));
+      }
 
-    pub no_word : r ≡ None → unread o xs ≡ []
-    no_word none = drop_all (length xs) _ (omega (arith, (YieldsList-end words xs t so_far r u none step).1, ap length same_words))
+  pub no_word : r ≡ None → length xs ≡ length (further (option_map (λ x. x.now) o))
+  no_word none = (YieldsList-end words xs t so_far r u none step).1 ∙ length-enumerate_from 0 (parts 32 text.now) ∙ ap length (sym same_words)

@@ -188,17 +188,18 @@ fn numbers_of(words: Option<&[u8]>) -> Result<Numbers, Fault>
     ensures { result ≡ read_on [] (further (option_map (λ x. x.now) words.entry)) }
 {
     let mut at = [0; 16];
-    let mut count = 0;
     if let Some(text) = words {
-        for word in text.split(|b| *b == b' ') {
-            at[count] = Token::Number(word).value().ok_or(Fault {
+        for (k, word) in text.split(|b| *b == b' ').enumerate() {
+            at[k] = Token::Number(word).value().ok_or(Fault {
                 refusal: Refusal::BadNumber,
-                word: count + 2,
+                word: k + 2,
             })?;
-            count += 1;
         }
     }
-    Ok(Numbers { at, count })
+    Ok(Numbers {
+        at,
+        count: count_words(words),
+    })
 }
 
 // A number that is left out is one of the zeros.

@@ -1,27 +1,34 @@
-use Rattle.std.proofs.Common.{◌≡◌, ◌∷◌, ◌++◌, [], sym, ◌∙◌, rules, tests}
+use Rattle.std.proofs.Common.{length, sym, ◌∙◌, rules, tests, length-append}
+use Rattle.std.specs.Option.{option_map}
 use Rattle.std.proofs.lemmas.Iterator.Splits.{YieldsList-from_slice_split}
-use Rattle.script.proofs.Listing.{unread, next_word, no_word, left_room, left_more, left_bad}
+use Rattle.std.proofs.lemmas.Iterator.Consumers.{YieldsList-from_enumerate}
+use Rattle.script.specs.Words.{further}
+use Rattle.script.proofs.Listing.{Next, next_word, no_word, read_room, read_more, read_bad, read_all}
 use Rattle.script.proofs.command.numbers_of.Goals as goal
-use Rattle.script.proofs.command.numbers_of.Goals.{In-Some-word}
+use Rattle.script.proofs.command.numbers_of.Goals.{In-Some-2, in-Some+in-None, in_default}
 
--- the word is the first of those that are left
-next : (c : In-Some-word) → unread c.args.words c.loop-word.yielded ≡ c.in-Some-word.word.now ∷ unread c.args.words (c.loop-word.yielded ++ c.in-Some-word.word ∷ [])
+next : (c : In-Some-2) → Next (further (option_map (λ x. x.now) c.args.words)) c.in-Some-2.word.now c.in-Some-2.k (length c.loop-k.yielded)
 next c =
-    next_word c.in-Some.is (YieldsList-from_slice_split _ _ c.in-Some.text.now (cc) (cc) (cc) (λ x b q k. search (rules, tests))) _ c.loop-word.yielded_by c.next.ensures.steps c.in-Some-word.is
+    next_word c.in-Some.is (YieldsList-from_enumerate (YieldsList-from_slice_split _ _ c.in-Some.text.now (cc) (cc) (cc) (λ x b q k. search (rules, tests))) (cc)) _ c.loop-k.yielded_by c.next.ensures.steps c.in-Some-2.is
 
 pub returns-in_err-at : goal.returns-in_err-at
 returns-in_err-at c =
-    let bad = left_bad _ _ _ _ _ _ (next (goal.at.returns-in_err-at c).In-Some-word) c.loop-word.invariant (sym c.in_err-at.ensures.ok_part ∙ c.value.ensures) in
+    let bad = read_bad _ _ _ _ _ (next (goal.at.returns-in_err-at c).In-Some-2) c.requires c.loop-k.invariant (sym c.in_err-at.ensures.ok_part ∙ c.value.ensures) in
     let e = c.in_err-at.ensures.value in
     search rules
 
-pub bounds-at-count : goal.bounds-at-count
-bounds-at-count c = left_room _ _ _ _ _ _ (next (goal.at.bounds-at-count c).In-Some-word) c.loop-word.invariant
+pub bounds-at-k : goal.bounds-at-k
+bounds-at-k c = read_room _ _ _ _ _ (next (goal.at.bounds-at-k c).In-Some-2) c.requires c.loop-k.invariant
 
-pub loop-word-preserved : goal.loop-word-preserved
-loop-word-preserved c = left_more _ _ _ _ _ _ (next (goal.at.loop-word-preserved c).In-Some-word) c.loop-word.invariant _ (sym c.in_ok-at.ensures.ok_part ∙ c.value.ensures)
+pub loop-k-preserved : goal.loop-k-preserved
+loop-k-preserved c = read_more _ _ _ _ _ (next (goal.at.loop-k-preserved c).In-Some-2) c.requires c.loop-k.invariant _ _ (sym c.in_ok-at.ensures.ok_part ∙ c.value.ensures) (length-append c.loop-k.yielded _)
 
-pub returns-in-None : goal.returns-in-None
-returns-in-None c =
-    let none = no_word c.in-Some.is (YieldsList-from_slice_split _ _ c.in-Some.text.now (cc) (cc) (cc) (λ x b q k. search (rules, tests))) _ c.loop-word.yielded_by c.next.ensures.steps c.in-None.is in
-    search rules
+pub returns : goal.returns
+returns c =
+    elim c.match-words.branch [
+      | in-Some+in-None w ↦
+          let all = no_word w.in-Some.is (YieldsList-from_enumerate (YieldsList-from_slice_split _ _ w.in-Some.text.now (cc) (cc) (cc) (λ x b q k. search (rules, tests))) (cc)) _ w.loop-k.yielded_by w.next.ensures.steps w.in-None.is in
+          let read = read_all _ _ _ all w.loop-k.invariant in
+          search rules
+      | in_default w ↦ search rules
+    ]
