@@ -1,5 +1,5 @@
 -- What the lines of a script do to a sheet of weights, and what is written of each.
-use Rattle.std.specs.Prelude.{ℕ, ◌+◌, ◌*◌, Bool, true, false, cond, not, ◌&&◌, List, [], ◌∷◌, ◌++◌, map, replicate, Ok, Err, Result, nat_le, slice_index}
+use Rattle.std.specs.Prelude.{ℕ, ◌+◌, ◌*◌, Bool, true, false, cond, not, ◌&&◌, List, [], ◌∷◌, ◌++◌, map, length, replicate, Ok, Err, Result, nat_le, slice_index}
 use Rattle.std.specs.List.{range_with_len, flat_map}
 use Rattle.layout.specs.Refusals.{number_of}
 use Rattle.journal.specs.View.{side_of}
@@ -109,3 +109,11 @@ abbrev pub transcript : State → ℕ → List (List ℕ) → List ℕ
 transcript s number [] = []
 transcript s number (line ∷ lines) =
     (obeyed s number (decided line)).1 ++ transcript (obeyed s number (decided line)).0 (number + 1) lines
+
+-- the lines one after another, from the one with this number on, as long as fewer than 65,536 bytes are written: the
+-- state then, all that is written, and the lines that are left
+abbrev pub played : State → ℕ → List (List ℕ) → List ℕ → State × (List ℕ × List (List ℕ))
+played s number [] out = (s, (out, []))
+played s number (line ∷ lines) out =
+    cond (nat_le 65536 (length out)) (s, (out, line ∷ lines))
+    (played (obeyed s number (decided line)).0 (number + 1) lines (out ++ (obeyed s number (decided line)).1))

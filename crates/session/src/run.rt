@@ -1,7 +1,7 @@
 ghost use Rattle.std.specs.Prelude.{◌≡◌, ◌<◌, ◌≤◌, ◌⊎◌, ◌++◌, length, take, vec_len, OnOk, ◌==◌};
 ghost use Rattle.std.specs.Iterator.{at_most};
 ghost use Rattle.script.specs.Words.{lines_of};
-ghost use Rattle.session.specs.Transcript.{transcript};
+ghost use Rattle.session.specs.Transcript.{played, transcript};
 ghost use Rattle.session.specs.Meaning.{Takes, state_of};
 
 use super::state::{Lines, Session};
@@ -50,6 +50,7 @@ impl<'s, 'a> Session<'s, 'a> {
     // Obeys the lines one after another, until none is left or the text has come to 65,536 bytes.
     // What is written, and what the lines left would write, is what all of them write.
     pub fn run(&mut self, lines: &mut Lines<'_>, out: &mut Vec<u8>) -> Result<(), AllocError>
+        ensures played { OnOk result ((state_of self.new, (out.new.items, lines_of lines.new.rest.now)) ≡ played (state_of self.old) lines.old.number (lines_of lines.old.rest.now) out.old.items) }
         ensures text { OnOk result (out.new.items ++ transcript (state_of self.new) lines.new.number (lines_of lines.new.rest.now) ≡ out.old.items ++ transcript (state_of self.old) lines.old.number (lines_of lines.old.rest.now)) }
         ensures goes { OnOk result (0 < length lines.old.rest.now → vec_len out.old < 65536 → length lines.new.rest.now < length lines.old.rest.now) }
         ensures ends { OnOk result ((length lines.new.rest.now ≡ 0) ⊎ (65536 ≤ vec_len out.new)) }
