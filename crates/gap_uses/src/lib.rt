@@ -29,7 +29,7 @@ pub fn put_listed_rows<'a, T: Copy>(
     gap.fill(list, v)
 }
 
-// Puts n rows of the listed weights in before row i; where the list is used up a cell weighs nothing.
+// The same for weights: n rows of the listed ones before row i; where the list is used up a cell weighs nothing.
 pub fn put_weights<'a>(
     sheet: Sheet<'a, Weight>,
     i: u32,

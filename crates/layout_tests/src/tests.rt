@@ -6,7 +6,6 @@ use layout::vec_storage::Dense;
 use sheet::cell::WeighingNote;
 use std::fmt::Debug;
 use std::process::Abort;
-use std::test::Fail;
 
 const M: u32 = u32::MAX;
 
@@ -55,18 +54,16 @@ fn strided(rt: &impl Abort, a: [u32; 5], e: Expected) {
     meets(rt, &Strided::make(a[0], a[1], a[2], a[3], a[4]), answer, e);
 }
 
-fn picked(rt: &impl Abort, list: &[u32], rows: u32, columns: u32, e: Expected) -> Result<(), Fail> {
+fn picked(rt: &impl Abort, list: &[u32], rows: u32, columns: u32, e: Expected) {
     let answer = Picked::check(list, rows, columns);
     meets(rt, &Picked::make(list, rows, columns), answer, e);
-    Ok(())
 }
 
 // Row, column, and where that cell lies.
-fn places<L: Layout>(rt: &impl Abort, layout: &L, cells: &[(u32, u32, u32)]) -> Result<(), Fail> {
-    for cell in cells {
-        assert_eq!(rt; layout.place(cell.0, cell.1), cell.2);
+fn places<L: Layout>(rt: &impl Abort, layout: &L, cells: &[(u32, u32, u32)]) {
+    for (row, column, place) in cells {
+        assert_eq!(rt; layout.place(*row, *column), *place);
     }
-    Ok(())
 }
 
 #[test]
@@ -108,40 +105,40 @@ fn strided_steps(rt: HostRuntime) {
 }
 
 #[test]
-fn picked_rows(rt: HostRuntime) -> Result<(), Fail> {
-    picked(&rt, &[], 0, 0, made(0, 0, 0))?;
-    picked(&rt, &[], 4096, 16, made(0, 16, 65536))?;
-    picked(&rt, &[2, 0], 3, 2, made(2, 2, 6))?;
-    picked(&rt, &[0], 0, 0, refused(Refusal::NoSuchLine))?;
-    picked(&rt, &[0, 3], 3, 4097, refused(Refusal::NoSuchLine))?;
-    picked(&rt, &[M], M, 1, refused(Refusal::NoSuchLine))?;
-    picked(&rt, &[0], 4097, 1, refused(Refusal::TooManyLines))?;
-    picked(&rt, &[0], 1, 4097, refused(Refusal::TooManyLines))?;
-    picked(&rt, &[0; 4097], 1, 1, refused(Refusal::TooManyLines))?;
-    picked(&rt, &[0, 0], 4096, 17, refused(Refusal::TooManyCells))?;
-    picked(&rt, &[2, 0, 2], 3, 2, refused(Refusal::CellsMeet))
+fn picked_rows(rt: HostRuntime) {
+    picked(&rt, &[], 0, 0, made(0, 0, 0));
+    picked(&rt, &[], 4096, 16, made(0, 16, 65536));
+    picked(&rt, &[2, 0], 3, 2, made(2, 2, 6));
+    picked(&rt, &[0], 0, 0, refused(Refusal::NoSuchLine));
+    picked(&rt, &[0, 3], 3, 4097, refused(Refusal::NoSuchLine));
+    picked(&rt, &[M], M, 1, refused(Refusal::NoSuchLine));
+    picked(&rt, &[0], 4097, 1, refused(Refusal::TooManyLines));
+    picked(&rt, &[0], 1, 4097, refused(Refusal::TooManyLines));
+    picked(&rt, &[0; 4097], 1, 1, refused(Refusal::TooManyLines));
+    picked(&rt, &[0, 0], 4096, 17, refused(Refusal::TooManyCells));
+    picked(&rt, &[2, 0, 2], 3, 2, refused(Refusal::CellsMeet));
 }
 
 // All 4,096 rows, the last one first.
 #[test]
-fn all_rows_picked(rt: HostRuntime) -> Result<(), Fail> {
+fn all_rows_picked(rt: HostRuntime) {
     let mut list = [0; 4096];
     for (place, row) in list.iter_mut().zip((0..4096).rev()) {
         *place = row;
     }
-    picked(&rt, &list, 4096, 16, made(4096, 16, 65536))?;
+    picked(&rt, &list, 4096, 16, made(4096, 16, 65536));
     places(
         &rt,
         &Picked::make(&list, 4096, 16),
         &[(0, 15, 65535), (4095, 0, 0)],
-    )?;
+    );
     list[4095] = 4095;
-    picked(&rt, &list, 4096, 16, refused(Refusal::CellsMeet))
+    picked(&rt, &list, 4096, 16, refused(Refusal::CellsMeet));
 }
 
 // The last ones of each list lie outside the shape.
 #[test]
-fn cells_have_places(rt: HostRuntime) -> Result<(), Fail> {
+fn cells_have_places(rt: HostRuntime) {
     places(
         &rt,
         &Dense::make(3, 2),
@@ -153,7 +150,7 @@ fn cells_have_places(rt: HostRuntime) -> Result<(), Fail> {
             (0, 2, 6),
             (M, M, 6),
         ],
-    )?;
+    );
     places(
         &rt,
         &Strided::make(2, 2, 0, 2, 3),
@@ -166,7 +163,7 @@ fn cells_have_places(rt: HostRuntime) -> Result<(), Fail> {
             (0, 2, 6),
             (M, M, 6),
         ],
-    )?;
+    );
     places(
         &rt,
         &Strided::make(2, 2, 7, 2, 1),
@@ -178,8 +175,8 @@ fn cells_have_places(rt: HostRuntime) -> Result<(), Fail> {
             (2, 0, 11),
             (0, 2, 11),
         ],
-    )?;
-    places(&rt, &Strided::make(3, 2, 0, 2, 3), &[(0, 0, 0), (2, 1, 0)])?;
+    );
+    places(&rt, &Strided::make(3, 2, 0, 2, 3), &[(0, 0, 0), (2, 1, 0)]);
     places(
         &rt,
         &Picked::make(&[2, 0], 3, 2),
@@ -192,7 +189,7 @@ fn cells_have_places(rt: HostRuntime) -> Result<(), Fail> {
             (0, 2, 6),
             (M, M, 6),
         ],
-    )
+    );
 }
 
 // A buffer of six cells, read through each layout, whole and one short.

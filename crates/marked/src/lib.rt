@@ -81,13 +81,9 @@ pub fn notes() -> [WeighingNote; 6]
 pub fn same_marks<T: Marked>(cells: &[T], marks: &[u32]) -> bool
     ensures { Decides result (map (λ cell. T.mark_of cell) cells.now ≡ marks.now) }
 {
-    if cells.len() != marks.len() {
-        return false;
-    }
-    for (cell, mark) in cells.iter().zip(marks) {
-        if cell.mark() != *mark {
-            return false;
-        }
-    }
-    true
+    cells.len() == marks.len()
+        && cells
+            .iter()
+            .zip(marks)
+            .all(|(cell, mark)| cell.mark() == *mark)
 }

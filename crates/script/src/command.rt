@@ -169,7 +169,7 @@ fn takes(verb: Verb, count: usize) -> bool
     ensures { result ≡ takes verb count }
 {
     let (low, high) = bounds(verb);
-    low <= count && count <= high
+    (low..=high).contains(&count)
 }
 
 // How many words there are: one more than blanks.

@@ -1,4 +1,4 @@
-// Takes a line apart into tokens.
+// Takes the first token off a line.
 ghost use Rattle.std.specs.Prelude.{◌≡◌};
 ghost use Rattle.std.specs.Option.{option_map};
 ghost use Rattle.script.specs.Tokens.{part_of, first_part, after_first, part_value};
@@ -6,7 +6,8 @@ ghost use Rattle.script.specs.Tokens.{part_of, first_part, after_first, part_val
 use crate::number::number;
 use crate::words::cut;
 
-// A part of a line, which it borrows.
+// A part of a line, which it borrows. What a reader of lines meets has three kinds, each with a case of its own; the
+// first part of a line is never a number, and the words behind a command are all to be numbers.
 #[derive(Clone, Copy, Debug)]
 pub enum Token<'l> {
     Command(&'l [u8]),

@@ -9,14 +9,13 @@ use super::state::Session;
 use answers::answer::{Done, Refused, put_answer, put_row};
 use layout::refusal::Refusal;
 use layout::side::Side;
-use layout::storage::Layout;
 use layout::vec_storage::Dense;
 use script::command::{Command, decide};
 use sheet::cell::Weight;
 use sheet::sheet::Sheet;
 use std::alloc::AllocError;
 
-// Every command but `n` needs a sheet that has been opened.
+// Every command but `n` and a remark needs a sheet that has been opened.
 fn needs_sheet(command: Command) -> bool
     ensures { result ≡ needs_a_sheet command }
 {

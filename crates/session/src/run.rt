@@ -1,4 +1,4 @@
-ghost use Rattle.std.specs.Prelude.{◌≡◌, ◌<◌, ◌≤◌, ◌⊎◌, ◌++◌, length, take, vec_len, OnOk, ◌==◌};
+ghost use Rattle.std.specs.Prelude.{◌≡◌, ◌+◌, ◌<◌, ◌≤◌, ◌⊎◌, ◌++◌, length, take, vec_len, OnOk, ◌==◌};
 ghost use Rattle.std.specs.Iterator.{at_most};
 ghost use Rattle.script.specs.Words.{lines_of};
 ghost use Rattle.session.specs.Transcript.{played, transcript};
@@ -26,7 +26,7 @@ impl<'s> Lines<'s> {
     }
 }
 
-// Each line with its number.
+// Each line with its number. No iterator of the library's: `run` may stop, and says which lines are left.
 impl<'s> Iterator for Lines<'s> {
     type Item = (usize, &'s [u8]);
 
@@ -51,6 +51,7 @@ impl<'s, 'a> Session<'s, 'a> {
     // What is written, and what the lines left would write, is what all of them write.
     pub fn run(&mut self, lines: &mut Lines<'_>, out: &mut Vec<u8>) -> Result<(), AllocError>
         ensures played { OnOk result ((state_of self.new, (out.new.items, lines_of lines.new.rest.now)) ≡ played (state_of self.old) lines.old.number (lines_of lines.old.rest.now) out.old.items) }
+        ensures numbered { OnOk result (lines.new.number + length (lines_of lines.new.rest.now) ≡ lines.old.number + length (lines_of lines.old.rest.now)) }
         ensures text { OnOk result (out.new.items ++ transcript (state_of self.new) lines.new.number (lines_of lines.new.rest.now) ≡ out.old.items ++ transcript (state_of self.old) lines.old.number (lines_of lines.old.rest.now)) }
         ensures goes { OnOk result (0 < length lines.old.rest.now → vec_len out.old < 65536 → length lines.new.rest.now < length lines.old.rest.now) }
         ensures ends { OnOk result ((length lines.new.rest.now ≡ 0) ⊎ (65536 ≤ vec_len out.new)) }

@@ -1,7 +1,6 @@
 use self::Call::*;
 use journal::parts::{Entry, NO_ENTRY, NO_RUN, Run};
 use layout::refusal::Refusal;
-use layout::storage::Layout;
 use layout::vec_storage::Dense;
 use marked::{Marked, TABLE, note, notes, same_marks};
 use sheet::sheet::Sheet;
@@ -36,6 +35,7 @@ const SAME: After<'static> = After {
     runs: &[],
 };
 
+// The cases write a run as a pair, for shortness.
 fn same_runs(rt: &impl Abort, runs: &[Run], pairs: &[(u32, u32)]) {
     assert_eq!(rt; runs.len(), pairs.len());
     for (run, pair) in runs.iter().zip(pairs) {

@@ -1,7 +1,6 @@
 use super::changes::{Call, play};
 use journal::parts::{NO_ENTRY, NO_RUN, Run};
 use layout::refusal::Refusal;
-use layout::storage::Layout;
 use layout::vec_storage::Dense;
 use marked::{Marked, TABLE, note, notes, same_marks};
 use sheet::sheet::Sheet;

@@ -1,4 +1,4 @@
-use Rattle.std.proofs.Common.{◌≡◌, ◌<◌, ◌≤◌, ◌⊎◌, ◌++◌, length, vec_items, vec_len}
+use Rattle.std.proofs.Common.{◌≡◌, ◌+◌, ◌<◌, ◌≤◌, ◌⊎◌, ◌++◌, length, vec_items, vec_len}
 use Rattle.script.specs.Words.{lines_of}
 use Rattle.session.specs.Transcript.{played, transcript}
 use Rattle.session.specs.Meaning.{state_of}
@@ -6,6 +6,7 @@ use Rattle.session.proofs.state.Session.run.Given as goal
 
 abbrev pub invariant-loop-lines : goal.invariant-loop-lines
 invariant-loop-lines l = record {
+  numbered : l.lines.number + length (lines_of l.lines.rest.now) ≡ l.initial.lines.number + length (lines_of l.initial.lines.rest.now);
   played :
       played (state_of l.self) l.lines.number (lines_of l.lines.rest.now) (vec_items l.out)
       ≡ played (state_of l.initial.self) l.initial.lines.number (lines_of l.initial.lines.rest.now) (vec_items l.initial.out);
