@@ -3,7 +3,7 @@
 
 ghost use Rattle.std.specs.Prelude.{◌≡◌, ◌+◌, ◌*◌, ◌<◌, ◌≤◌, length, MatchResult};
 ghost use Rattle.layout.specs.Cells.{Cloned};
-ghost use Rattle.layout.specs.Checks.{Checked};
+ghost use Rattle.layout.specs.Checks.{Checked, Passes};
 ghost use Rattle.layout.specs.Lawful.{selected_rows};
 ghost use Rattle.layout.specs.Written.{Written, cell_of};
 ghost use Rattle.edition.specs.Selections.{Packed, Selected, select_rules, selected_columns, spread};
@@ -18,7 +18,29 @@ use turned::Turned;
 
 mod turned;
 
-// Cells (i, c) and (j, c) change places, for each column c. Puts questions 2 and 10.
+// Cells (i, c) and (j, c) change places, for each column c.
+pub fn exchange_rows<L: Layout, T: Copy>(layout: &L, buffer: &mut [T], i: u32, j: u32)
+    requires { Passes (swap_rules (L.grid layout.now) i j (length buffer.old)) }
+    ensures { RowsSwapped (L.grid layout.now) buffer.old buffer.new i j }
+{
+    let (_, columns) = layout.shape();
+    for column in 0..columns {
+        let p = layout.place(i, column) as usize;
+        let q = layout.place(j, column) as usize;
+        buffer.swap(p, q);
+    }
+}
+
+// Cells (r, i) and (r, j) change places, for each row r.
+pub fn exchange_columns<L: Layout, T: Copy>(layout: &L, buffer: &mut [T], i: u32, j: u32)
+    requires { Passes (swap_rules (turn (L.grid layout.now)) i j (length buffer.old)) }
+    ensures { ColumnsSwapped (L.grid layout.now) buffer.old buffer.new i j }
+{
+    let turned = Turned { layout };
+    exchange_rows(&turned, buffer, i, j);
+}
+
+// The rows i and j change places. Puts questions 2 and 10.
 pub fn swap_rows<L: Layout, T: Copy>(
     layout: &L,
     buffer: &mut [T],
@@ -28,20 +50,16 @@ pub fn swap_rows<L: Layout, T: Copy>(
     ensures answer { Checked (swap_rules (L.grid layout.now) i j (length buffer.old)) result }
     ensures after { MatchResult result (λ _. RowsSwapped (L.grid layout.now) buffer.old buffer.new i j) (λ _. buffer.new ≡ buffer.old) }
 {
-    let (rows, columns) = layout.shape();
+    let (rows, _) = layout.shape();
     if i >= rows || j >= rows {
         return Err(Refusal::NoSuchLine);
     }
     ask_span(layout, buffer.len())?;
-    for column in 0..columns {
-        let p = layout.place(i, column) as usize;
-        let q = layout.place(j, column) as usize;
-        buffer.swap(p, q);
-    }
+    exchange_rows(layout, buffer, i, j);
     Ok(())
 }
 
-// Cells (r, i) and (r, j) change places, for each row r. Puts questions 2 and 10.
+// The columns i and j change places. Puts questions 2 and 10.
 pub fn swap_columns<L: Layout, T: Copy>(
     layout: &L,
     buffer: &mut [T],
@@ -56,7 +74,6 @@ pub fn swap_columns<L: Layout, T: Copy>(
 }
 
 // Fills one column from a row on.
-// Layout and buffer come apart: each method of a struct of the two would owe that it keeps both.
 fn fill_column_from<L: Layout, T: Copy>(layout: &L, buffer: &mut [T], v: T, row: u32, column: u32)
     requires { (column < (L.grid layout.now).columns) × ((L.grid layout.now).span ≤ length buffer.old) }
     ensures { Written (L.grid layout.now) buffer.old buffer.new (λ r c. (c ≡ column) × (row ≤ r)) (λ r c d. v) }
@@ -144,7 +161,8 @@ pub fn fill_upper_triangle_with_lower_triangle<L: Layout, T: Copy>(
     fill_lower_triangle_with_upper_triangle(&turned, buffer)
 }
 
-// Where the lines of a selection go: how many there are, how far apart they begin, and how far apart their cells are.
+// Where the lines of a selection go: how many there are, how far apart they begin, and how far apart their cells are. No
+// layout: a selection may be of any size.
 #[derive(Clone, Copy)]
 struct Lines {
     count: usize,

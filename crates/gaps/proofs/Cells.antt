@@ -6,7 +6,7 @@ use Rattle.layout.specs.declared.side.Side.{Side}
 use Rattle.layout.specs.declared.side.Side.TheVariants.{Rows, Columns}
 use Rattle.moves.specs.Blocks.{block_of, cells_in, columns_with, lines_in, rows_block, rows_with}
 use Rattle.moves.specs.Tables.{Extended}
-use Rattle.moves.proofs.Flat.{extended_before, extended_behind}
+use Rattle.moves.proofs.Flat.{joined_before, joined_behind}
 use Rattle.moves.proofs.Slides.{at}
 use Rattle.moves.proofs.Places.{columns_lt, columns_sum}
 use Rattle.model.specs.Sheet.{old, new, row, column, Change, fill_lines, Table, cell_of, rows_of, columns_of, changed}
@@ -84,7 +84,7 @@ module _ {A : Type 0} (t : Table A) (right : Right t) (xs : List A) (lies : t.ce
         | inl l ↦
             let before = columns_lt c i m l in
             old_cell t ch xs zs lies fits r c r c (r + c * m) (keep_at m r (new 0) a) (insert_upper i n C there c (new 0) l) a (omega arith) (omega arith)
-            (λ d. taken_before ys zs m (C + n) i n vs v w (r + c * m) d (omega arith) ∙ extended_before xs ys m C i n h (r + c * m) d (omega arith))
+            (λ d. taken_before ys zs m (C + n) i n vs v w (r + c * m) d (omega arith) ∙ joined_before xs ys m C i n _ h (r + c * m) d (omega arith))
         | inr l ↦ elim (cases_lt c (i + n)) [
           | inl l2 ↦
               let j : ℕ = c - i in
@@ -104,7 +104,7 @@ module _ {A : Type 0} (t : Table A) (right : Right t) (xs : List A) (lies : t.ce
               let ends = columns_lt j C m (omega arith) in
               old_cell t ch xs zs lies fits r c r j (r + c * m) (keep_at m r (new 0) a) o a (omega arith) (omega arith)
               (λ d. taken_behind ys zs m (C + n) i n vs v w (r + c * m) d (omega arith) (omega arith)
-              ∙ at ys d (r + c * m) (r + j * m + n * m) (omega arith) ∙ extended_behind xs ys m C i n h (r + j * m) d (omega arith) (omega (arith, mul_comm m C)))
+              ∙ at ys d (r + c * m) (r + j * m + n * m) (omega arith) ∙ joined_behind xs ys m C i n _ h (r + j * m) d (omega arith) (omega (arith, mul_comm m C)))
         ]
       ])
 

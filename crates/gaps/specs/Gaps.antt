@@ -1,5 +1,5 @@
 -- A gap in the buffers of a sheet: how it is opened, and how it is filled.
-use Rattle.std.specs.Prelude.{◌≡◌, ℕ, ◌+◌, ◌≤◌, List, [], ◌∷◌, Ok, Err, Result}
+use Rattle.std.specs.Prelude.{◌≡◌, ℕ, ◌+◌, ◌≤◌, List, [], ◌∷◌, Result, MatchResult}
 use Rattle.layout.specs.declared.refusal.Refusal.{Refusal}
 use Rattle.layout.specs.declared.side.Side.{Side}
 use Rattle.moves.specs.Blocks.{SameShape, Shaped, block_in, count_of}
@@ -31,8 +31,7 @@ pub record Parted {A : Type 0} (p q : Parts A) (side : Side) (i n : ℕ) : Type 
 
 -- a refused gap is empty
 abbrev pub Opened : {A : Type 0} → (p q : Parts A) → Side → (i n : ℕ) → Result Unit Refusal → Type 0
-Opened p q side i n (Ok _) = Parted p q side i n
-Opened p q side i n (Err _) = q ≡ p
+Opened p q side i n r = MatchResult r (λ _. Parted p q side i n) (λ _. q ≡ p)
 
 -- the answer is the model's, whatever the gap is filled with
 abbrev pub Asked : {A : Type 0} → Parts A → Side → (i n : ℕ) → Result Unit Refusal → Type 0

@@ -99,5 +99,5 @@ pub cleared : {A : Type 0} (p q : Parts A) → Cleared p q → view q ≡ settle
 cleared {A} p q w =
     same_sheet (view q) (settled (view p)) (ap (λ (t : Table A). t.rows) w.table) (ap (λ (t : Table A). t.columns) w.table)
     (ap (λ (t : Table A). take (t.rows * t.columns) t.cells.now) w.table)
-    (ap (λ zs. map entry_of (reverse zs)) w.entries) (ap (map run_of) w.runs) w.saved
-    (same_room _ _ _ _ _ _ _ _ (ap (λ (t : Table A). length t.cells.now) w.table) (ap length w.entries_stand) (ap length w.runs_stand) (ap length w.saved_stand))
+    (ap (λ zs. map entry_of (reverse zs)) w.entries.none) (ap (map run_of) w.runs.none) w.saved.none
+    (same_room _ _ _ _ _ _ _ _ (ap (λ (t : Table A). length t.cells.now) w.table) (ap length w.entries.stand) (ap length w.runs.stand) (ap length w.saved.stand))

@@ -1,8 +1,8 @@
 -- The questions that every change puts.
-use Rattle.std.specs.Prelude.{ℕ, ◌+◌, ◌*◌, ◌<◌, ◌≤◌, Bool, ◌&&◌, List, [], ◌∷◌, length, nat_le, nat_lt}
+use Rattle.std.specs.Prelude.{ℕ, ◌+◌, ◌*◌, ◌≤◌, Bool, ◌&&◌, List, [], ◌∷◌, length, nat_le, nat_lt}
 use Rattle.layout.specs.declared.side.Side.{Side}
 use Rattle.moves.specs.Blocks.{columns_with, rows_with}
-use Rattle.moves.specs.Stores.{items, room}
+use Rattle.moves.specs.Stores.{HasRoom}
 use Rattle.journal.specs.declared.parts.Parts.{Parts}
 use Rattle.journal.specs.View.{view}
 use Rattle.model.specs.Journal.{Sheet}
@@ -22,9 +22,9 @@ pub record Fits {A : Type 0} (p : Parts A) (m n k l : ℕ) : Type 0 where
   pub rows : m ≤ 4096
   pub columns : n ≤ 4096
   pub cells : m * n ≤ length p.table.cells.now
-  pub entries : length (items p.entries) < room p.entries
-  pub runs : length (items p.runs) + k ≤ room p.runs
-  pub saved : length (items p.saved) + l ≤ room p.saved
+  pub entries : HasRoom p.entries 1
+  pub runs : HasRoom p.runs k
+  pub saved : HasRoom p.saved l
 
 -- the same, of a change to k lines of the side
 abbrev pub FitsWith : {A : Type 0} → Parts A → Side → (k runs cells : ℕ) → Type 0

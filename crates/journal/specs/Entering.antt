@@ -1,6 +1,6 @@
 -- What a journal begins with, and what is entered in it.
-use Rattle.std.specs.Prelude.{◌≡◌, ℕ, List, []}
-use Rattle.moves.specs.Stores.{items, stands}
+use Rattle.std.specs.Prelude.{◌≡◌, ℕ, List}
+use Rattle.moves.specs.Stores.{Emptied, stands}
 use Rattle.journal.specs.declared.parts.Note.{Note}
 use Rattle.journal.specs.declared.parts.Run.{Run}
 use Rattle.journal.specs.declared.parts.Entry.{Entry}
@@ -11,12 +11,9 @@ pub record Holds {A : Type 0} (p : Parts A) (buffer : List A) (es : List Entry) 
   pub rows : p.table.rows ≡ 0
   pub columns : p.table.columns ≡ 0
   pub cells : p.table.cells.now ≡ buffer
-  pub entries : items p.entries ≡ []
-  pub runs : items p.runs ≡ []
-  pub saved : items p.saved ≡ []
-  pub entries_stand : stands p.entries ≡ es
-  pub runs_stand : stands p.runs ≡ rs
-  pub saved_stand : stands p.saved ≡ ks
+  pub entries : Emptied p.entries es
+  pub runs : Emptied p.runs rs
+  pub saved : Emptied p.saved ks
 
 -- the entry of a change, with so many runs and saved cells of its own
 abbrev pub entry_for : {A : Type 0} → Parts A → Note → ℕ → ℕ → Entry
@@ -25,9 +22,6 @@ entry_for p note runs cells = record { note = note; rows = p.table.rows; columns
 -- the same table, and in the same places an empty journal
 pub record Cleared {A : Type 0} (p q : Parts A) : Type 0 where
   pub table : q.table ≡ p.table
-  pub entries : items q.entries ≡ []
-  pub runs : items q.runs ≡ []
-  pub saved : items q.saved ≡ []
-  pub entries_stand : stands q.entries ≡ stands p.entries
-  pub runs_stand : stands q.runs ≡ stands p.runs
-  pub saved_stand : stands q.saved ≡ stands p.saved
+  pub entries : Emptied q.entries (stands p.entries)
+  pub runs : Emptied q.runs (stands p.runs)
+  pub saved : Emptied q.saved (stands p.saved)

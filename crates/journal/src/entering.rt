@@ -1,5 +1,5 @@
 ghost use Rattle.std.specs.Prelude.{◌≡◌, ◌+◌, ◌≤◌, ◌++◌, map, length};
-ghost use Rattle.moves.specs.Stores.{Kept, items, room};
+ghost use Rattle.moves.specs.Stores.{HasRoom, Kept, items};
 ghost use Rattle.journal.specs.View.{run_of};
 ghost use Rattle.model.specs.Journal.{one_run};
 
@@ -15,7 +15,7 @@ pub fn run_count(i: u32, n: u32) -> usize
 
 // Writes the run of n lines at i behind the others, or nothing where no line goes.
 pub fn note_run(runs: &mut Store<'_, Run>, i: u32, n: u32)
-    requires { length (items runs.old) + length (one_run i n) ≤ room runs.old }
+    requires { HasRoom runs.old (length (one_run i n)) }
     ensures noted { map run_of (items runs.new) ≡ map run_of (items runs.old) ++ one_run i n }
     ensures kept { Kept runs.old runs.new }
 {

@@ -1,4 +1,3 @@
 pub mod Cloning
 pub mod Writing
 pub mod Marks
-pub mod Passing

@@ -24,12 +24,9 @@ pub fn get<L: Layout, T: Copy>(layout: &L, buffer: &[T], row: u32, column: u32) 
 #[derive(Drop)]
 pub struct Picked<'a> {
     list: &'a [u32],
-    rows: u32,
-    columns: u32,
-    ghost below: { Below list.now rows },
+    table: Dense,
+    ghost below: { Below list.now table.rows },
     ghost few_listed: { length list.now ≤ 4096 },
-    ghost few_columns: { columns ≤ 4096 },
-    ghost short_span: { rows * columns ≤ 65536 },
     ghost once: { Once list.now },
 }
 
@@ -61,7 +58,7 @@ impl<'a> Picked<'a> {
     // Puts questions 2, 3, 4 and 13.
     pub fn new(list: &'a [u32], rows: u32, columns: u32) -> Result<Picked<'a>, Refusal>
         ensures answer { Checked (picked_rules list.now rows columns) result }
-        ensures made { IfOk result (λ p. (p.list.now ≡ list.now) × (p.rows ≡ rows) × (p.columns ≡ columns)) }
+        ensures made { IfOk result (λ p. (p.list.now ≡ list.now) × (p.table.rows ≡ rows) × (p.table.columns ≡ columns)) }
     {
         if !all_below(list, rows) {
             return Err(Refusal::NoSuchLine);
@@ -69,15 +66,11 @@ impl<'a> Picked<'a> {
         if list.len() > 4096 {
             return Err(Refusal::TooManyLines);
         }
-        Dense::check(rows, columns)?;
+        let table = Dense::new(rows, columns)?;
         if !all_once(list) {
             return Err(Refusal::CellsMeet);
         }
-        Ok(Picked {
-            list,
-            rows,
-            columns,
-        })
+        Ok(Picked { list, table })
     }
 
     // Whether the layout can be made, and why not.
@@ -89,35 +82,34 @@ impl<'a> Picked<'a> {
 
     // The layout, or 0 × 0 where it is refused.
     pub fn make(list: &'a [u32], rows: u32, columns: u32) -> Picked<'a>
-        ensures made { Passes (picked_rules list.now rows columns) → (result.list.now ≡ list.now) × (result.rows ≡ rows) × (result.columns ≡ columns) }
-        ensures refused { (Passes (picked_rules list.now rows columns) → ⊥) → (length result.list.now ≡ 0) × (result.rows ≡ 0) × (result.columns ≡ 0) }
+        ensures made { Passes (picked_rules list.now rows columns) → (result.list.now ≡ list.now) × (result.table.rows ≡ rows) × (result.table.columns ≡ columns) }
+        ensures refused { (Passes (picked_rules list.now rows columns) → ⊥) → (length result.list.now ≡ 0) × (result.table.rows ≡ 0) × (result.table.columns ≡ 0) }
     {
         Picked::new(list, rows, columns).unwrap_or(Picked {
             list: &[],
-            rows: 0,
-            columns: 0,
+            table: Dense::make(0, 0),
         })
     }
 }
 
 impl<'a> Layout for Picked<'a> {
-    ghost grid = { λ s. picked s.list.now s.rows s.columns };
+    ghost grid = { λ s. picked s.list.now s.table.rows s.table.columns };
 
-    ghost lawful = { λ s. picked_lawful s.list.now s.rows s.columns s.below s.few_listed s.few_columns s.short_span s.once };
+    ghost lawful = { λ s. picked_lawful s.list.now s.table.rows s.table.columns s.below s.few_listed s.table.few_columns s.table.short_span s.once };
 
     fn shape(&self) -> (u32, u32) {
-        (self.list.len() as u32, self.columns)
+        let (_, columns) = self.table.shape();
+        (self.list.len() as u32, columns)
     }
 
     fn span(&self) -> u32 {
-        self.rows * self.columns
+        self.table.span()
     }
 
     fn place(&self, row: u32, column: u32) -> u32 {
-        if (row as usize) < self.list.len() && column < self.columns {
-            self.list[row as usize] + column * self.rows
-        } else {
-            self.span()
+        match self.list.get(row as usize) {
+            Some(listed) => self.table.place(*listed, column),
+            None => self.span(),
         }
     }
 }

@@ -60,7 +60,8 @@ pub fn ask_clone<L: Layout>(layout: &L, source: usize, cells: usize) -> Result<(
     ask_span(layout, source)
 }
 
-// The cell of a row and a column, in a buffer that reaches the span.
+// The cell of a row and a column, in a buffer that reaches the span. Layout and buffer come apart, here and in all that
+// acts through a layout: each method of a struct of the two would owe that it keeps both.
 pub fn read<L: Layout, T: Copy>(layout: &L, buffer: &[T], row: u32, column: u32) -> T
     requires inside { (row < (L.grid layout.now).rows) × (column < (L.grid layout.now).columns) }
     requires fits { (L.grid layout.now).span ≤ length buffer.now }

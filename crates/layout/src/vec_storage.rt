@@ -29,7 +29,8 @@ impl Dense {
         Ok(Dense { rows, columns })
     }
 
-    // Whether the layout can be made, and why not.
+    // Whether the layout can be made, and why not. This and `make` stand beside `new` in each layout, for those who want
+    // a making that cannot refuse.
     pub fn check(rows: u32, columns: u32) -> Result<(), Refusal>
         ensures { Checked (dense_rules rows columns) result }
     {

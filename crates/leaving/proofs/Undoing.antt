@@ -20,16 +20,6 @@ use Rattle.journal.proofs.Asking.{entries_long, runs_long}
 use Rattle.leaving.specs.Leaving.{Leaves, TakesBack, below}
 use Rattle.leaving.specs.Leaving as leaving
 
--- the newest entry, as the code reads it
-pub newest : {A : Type 0} (p : Parts A) (e d : Entry) → 0 < length (items p.entries) → get_or (items p.entries) (length (items p.entries) - 1) d ≡ e
-    → leaving.Newest p e
-newest p e d h is =
-    let xs = items p.entries in
-    let j = length xs - 1 in
-    ap (λ zs. map entry_of (reverse zs)) (sym (take-length xs) ∙ ap (λ n. take n xs) (let m : length xs ≡ j + 1 = omega arith in m) ∙ take_more xs j d (omega arith))
-    ∙ ap (map entry_of) (reverse-append (take j xs) (get_or xs j d ∷ []))
-    ∙ ap (λ (x : Entry). entry_of x ∷ below p) is
-
 module _ {A : Type 0} (p : Parts A) (e : Entry) (held : Held p) (is : leaving.Newest p e) where
   -- it is the entry of the newest change
   pub its_entry : (w : Newest (view p)) → entry_of e ≡ model.entry_of w.former.table w.last
@@ -72,14 +62,14 @@ module _ {A : Type 0} (p : Parts A) (e : Entry) (held : Held p) (is : leaving.Ne
     back_view : take (q.table.rows * q.table.columns) q.table.cells.now ≡ (before (view p) (entry_of e) (below p)).table.cells → view q ≡ (step (view p) undo).0
     back_view cells =
         same_sheet (view q) (before (view p) (entry_of e) (below p)) w.rows w.columns cells
-        (ap (λ zs. map entry_of (reverse zs)) w.entries)
-        (ap (map run_of) w.runs ∙ sym (take-map run_of (length (items p.runs) - e.runs) (items p.runs)) ∙ ap (λ k. take (k - e.runs) (runs_of p)) (sym (runs_long p)))
-        w.saved
-        (same_room _ _ _ _ _ _ _ _ w.cells_long (ap length w.entries_stand) (ap length w.runs_stand) (ap length w.saved_stand))
+        (ap (λ zs. map entry_of (reverse zs)) w.entries.left)
+        (ap (map run_of) w.runs.left ∙ sym (take-map run_of (length (items p.runs) - e.runs) (items p.runs)) ∙ ap (λ k. take (k - e.runs) (runs_of p)) (sym (runs_long p)))
+        w.saved.left
+        (same_room _ _ _ _ _ _ _ _ w.cells_long (ap length w.entries.stand) (ap length w.runs.stand) (ap length w.saved.stand))
         ∙ sym (ap (λ qs. (taken_back (view p) qs).0) is)
 
     -- undone, if the cells are again those of whatever sheet was there before
-    pub undone : IsSet A
+    undone : IsSet A
         → ((v : Newest (view p)) → take (v.former.table.rows * v.former.table.columns) q.table.cells.now ≡ v.former.table.cells)
         → Answers p q undo (Ok tt)
     undone aset f =
@@ -97,22 +87,24 @@ module _ {A : Type 0} (p : Parts A) (e : Entry) (held : Held p) (is : leaving.Ne
         }
 
 -- cells were moved, and then the entry leaves
-module _ {A : Type 0} (p : Parts A) (t : Table A) (e : Entry) (long : length t.cells.now ≡ length p.table.cells.now) where
-  abbrev pub moved : Parts A
+module _ {A : Type 0} (p : Parts A) (t : Table A) (e : Entry) (held : Held p) (is : leaving.Newest p e) (long : length t.cells.now ≡ length p.table.cells.now) where
+  abbrev moved : Parts A
   moved = record { table = t; entries = p.entries; runs = p.runs; saved = p.saved }
 
-  pub moved_leaves : Leaves p e → Leaves moved e
-  moved_leaves w = record { entries = w.entries; runs = w.runs; saved = w.saved; rows = w.rows; columns = w.columns; cells = omega (arith, w.cells, long) }
+  pub moved_leaves : Leaves moved e
+  moved_leaves =
+      let w = leaves p e held is in
+      record { entries = w.entries; runs = w.runs; saved = w.saved; rows = w.rows; columns = w.columns; cells = omega (arith, w.cells, long) }
 
-  pub moved_back : (q : Parts A) → TakesBack moved q e → TakesBack p q e
-  moved_back q w = record {
-    rows = w.rows;
-    columns = w.columns;
-    entries = w.entries;
-    runs = w.runs;
-    saved = w.saved;
-    entries_stand = w.entries_stand;
-    runs_stand = w.runs_stand;
-    saved_stand = w.saved_stand;
-    cells_long = w.cells_long ∙ long;
-  }
+  pub moved_undone : (q : Parts A) → TakesBack moved q e → IsSet A
+      → ((v : Newest (view p)) → take (v.former.table.rows * v.former.table.columns) q.table.cells.now ≡ v.former.table.cells)
+      → Answers p q undo (Ok tt)
+  moved_undone q w =
+      undone p e held is q (record {
+        rows = w.rows;
+        columns = w.columns;
+        entries = w.entries;
+        runs = w.runs;
+        saved = w.saved;
+        cells_long = w.cells_long ∙ long;
+      })

@@ -1,6 +1,6 @@
 -- What every undo leaves besides the cells.
 use Rattle.std.specs.Prelude.{◌≡◌, ◌-◌, ◌*◌, ◌<◌, ◌≤◌, List, ◌∷◌, map, reverse, length, take}
-use Rattle.moves.specs.Stores.{items, stands}
+use Rattle.moves.specs.Stores.{Shortened, items}
 use Rattle.journal.specs.declared.parts.Entry.{Entry}
 use Rattle.journal.specs.declared.parts.Parts.{Parts}
 use Rattle.journal.specs.View.{entries_of, entry_of}
@@ -29,10 +29,7 @@ pub record Leaves {A : Type 0} (p : Parts A) (entry : Entry) : Type 0 where
 pub record TakesBack {A : Type 0} (p q : Parts A) (entry : Entry) : Type 0 where
   pub rows : q.table.rows ≡ entry.rows
   pub columns : q.table.columns ≡ entry.columns
-  pub entries : items q.entries ≡ take (length (items p.entries) - 1) (items p.entries)
-  pub runs : items q.runs ≡ take (length (items p.runs) - entry.runs) (items p.runs)
-  pub saved : items q.saved ≡ take (length (items p.saved) - entry.cells) (items p.saved)
-  pub entries_stand : stands q.entries ≡ stands p.entries
-  pub runs_stand : stands q.runs ≡ stands p.runs
-  pub saved_stand : stands q.saved ≡ stands p.saved
+  pub entries : Shortened p.entries q.entries 1
+  pub runs : Shortened p.runs q.runs entry.runs
+  pub saved : Shortened p.saved q.saved entry.cells
   pub cells_long : length q.table.cells.now ≡ length p.table.cells.now

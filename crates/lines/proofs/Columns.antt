@@ -6,7 +6,7 @@ use Rattle.std.proofs.lemmas.Bool.{cases_lt}
 use Rattle.layout.specs.declared.side.Side.TheVariants.{Columns}
 use Rattle.moves.specs.Blocks.{block_of}
 use Rattle.moves.specs.Tables.{Compressed, Inserted, Saved}
-use Rattle.moves.proofs.Flat.{compressed_before, compressed_behind, inserted_before, inserted_new, inserted_behind, saved_flat}
+use Rattle.moves.proofs.Flat.{compressed_before, compressed_behind, joined_before, joined_new, joined_behind, saved_flat}
 use Rattle.moves.proofs.Places.{columns_lt, columns_wider}
 use Rattle.model.specs.Sheet.{old, new, column, Change, remove_lines, insert_lines, Table, cell_at, cell_of, columns_of, changed}
 use Rattle.model.specs.Journal.{Right, lost_of}
@@ -81,14 +81,14 @@ module _ {A : Type 0} (t : Table A) (right : Right t) (xs : List A) (lies : t.ce
       changed_cells t ch m (C + n) ys right k.named k.rows k.columns (omega arith) (λ r c a b.
       let below = mul-add-lt c m r (C + n) b a in
       elim (cases_lt c i) [
-        | inl l ↦ old_cell t ch xs ys lies fits r c r c (r + c * m) (keep_at m r (new 0) a) (insert_upper i n C there c (new 0) l) a (omega arith) (omega arith) (λ d. inserted_before xs ys m C i n v h (r + c * m) d (omega (arith, columns_lt c i m l)))
+        | inl l ↦ old_cell t ch xs ys lies fits r c r c (r + c * m) (keep_at m r (new 0) a) (insert_upper i n C there c (new 0) l) a (omega arith) (omega arith) (λ d. joined_before xs ys m C i n _ h (r + c * m) d (omega (arith, columns_lt c i m l)))
         | inr l ↦ elim (cases_lt c (i + n)) [
           | inl l2 ↦
               let j : ℕ = c - i in
               let e : i + j ≡ c = omega arith in
               let o : get_or (columns_of t ch) c (new 0) ≡ new j = ap (λ z. get_or (columns_of t ch) z (new 0)) (sym e) ∙ insert_new i n C there j (new 0) (omega arith) in
               the_cell ys (r + c * m) v (omega arith) (λ d. ap (λ z. get_or ys z d) (let z : r + c * m ≡ i * m + (r + j * m) = omega (arith, ap (λ y. y * m) e, add-mul i j m) in z)
-              ∙ inserted_new xs ys m C i n v h (r + j * m) d (omega (arith, columns_lt j n m (omega arith))))
+              ∙ joined_new xs ys m C i n _ h (r + j * m) d (omega (arith, columns_lt j n m (omega arith))))
               ∙ sym (ap₂ (cell_of t ch) (keep_at m r (new 0) a) o)
           | inr l2 ↦
               let j : ℕ = c - n in
@@ -96,6 +96,6 @@ module _ {A : Type 0} (t : Table A) (right : Right t) (xs : List A) (lies : t.ce
               let o : get_or (columns_of t ch) c (new 0) ≡ old j = ap (λ z. get_or (columns_of t ch) z (new 0)) (sym e) ∙ insert_lower i n C there j (new 0) (omega arith) (omega arith) in
               old_cell t ch xs ys lies fits r c r j (r + c * m) (keep_at m r (new 0) a) o a (omega arith) (omega arith)
               (λ d. ap (λ z. get_or ys z d) (let z : r + c * m ≡ r + j * m + n * m = omega (arith, ap (λ y. y * m) e, add-mul j n m) in z)
-              ∙ inserted_behind xs ys m C i n v h (r + j * m) d (omega (arith, mul-le-mul_right m (let z : i ≤ j = omega arith in z))) (omega (arith, columns_lt j C m (omega arith), mul_comm m C)))
+              ∙ joined_behind xs ys m C i n _ h (r + j * m) d (omega (arith, mul-le-mul_right m (let z : i ≤ j = omega arith in z))) (omega (arith, columns_lt j C m (omega arith), mul_comm m C)))
         ]
       ])

@@ -1,7 +1,7 @@
 // Runs of lines saved and taken out: one text for rows and for columns.
 ghost use Rattle.std.specs.Prelude.{◌≡◌, ◌+◌, ◌*◌, ◌≤◌, map, length, drop};
 ghost use Rattle.moves.specs.Blocks.{SameShape, count_of};
-ghost use Rattle.moves.specs.Stores.{Grown, items, room};
+ghost use Rattle.moves.specs.Stores.{Grown, HasRoom};
 ghost use Rattle.journal.specs.View.{run_of};
 ghost use Rattle.listed.specs.Runs.{Rising};
 ghost use Rattle.listed.specs.Cuts.{Behind, Lying, between, cut, lines_of_side, spared, taken};
@@ -46,7 +46,7 @@ impl Lines {
 fn save_group<T: Copy>(cells: &[T], lines: Lines, runs: &[Run], saved: &mut Store<'_, T>)
     requires rising { Rising 0 (map run_of runs.now) lines.count }
     requires inside { lines.count * lines.width ≤ length cells.now }
-    requires fits { length (items saved.old) + length (taken lines.width cells.now (map run_of runs.now)) ≤ room saved.old }
+    requires fits { HasRoom saved.old (length (taken lines.width cells.now (map run_of runs.now))) }
     ensures { Grown saved.old saved.new (taken lines.width cells.now (map run_of runs.now)) }
 {
     for run in runs {
@@ -89,7 +89,7 @@ fn close_group<T: Copy>(
 fn save_runs<T: Copy>(cells: &[T], lines: Lines, runs: &[Run], saved: &mut Store<'_, T>)
     requires rising { Rising 0 (map run_of runs.now) lines.count }
     requires inside { Lying lines cells.now }
-    requires fits { length (items saved.old) + length (cut lines cells.now runs.now) ≤ room saved.old }
+    requires fits { HasRoom saved.old (length (cut lines cells.now runs.now)) }
     ensures { Grown saved.old saved.new (cut lines cells.now runs.now) }
 {
     let size = lines.count * lines.width;
@@ -119,7 +119,7 @@ pub fn cut_runs<T: Copy>(
     saved: &mut Store<'_, T>,
 )
     requires rising { Rising 0 (map run_of runs.now) (count_of table.old side) }
-    requires fits { length (items saved.old) + length (cut (lines_of_side side table.old.rows table.old.columns) table.old.cells.now runs.now) ≤ room saved.old }
+    requires fits { HasRoom saved.old (length (cut (lines_of_side side table.old.rows table.old.columns) table.old.cells.now runs.now)) }
     ensures lost { Grown saved.old saved.new (cut (lines_of_side side table.old.rows table.old.columns) table.old.cells.now runs.now) }
     ensures left { Behind table.old.cells.now table.new.cells.now 0 (spared (lines_of_side side table.old.rows table.old.columns) table.old.cells.now runs.now) }
     ensures shape { SameShape table.old table.new }

@@ -2,7 +2,7 @@
 use Rattle.std.proofs.Common.{◌≡◌, ℕ, ◌+◌, ◌-◌, ◌*◌, ◌<◌, ◌≤◌, List, length, get_or, ◌∙◌, zero-mul, arith, lit<}
 use Rattle.layout.specs.declared.side.Side.TheVariants.{Columns}
 use Rattle.moves.specs.Blocks.{block_of}
-use Rattle.moves.specs.Tables.{Compressed, Extended, Inserted, Saved}
+use Rattle.moves.specs.Tables.{Compressed, Joined, Saved}
 use Rattle.moves.proofs.Slides.{at}
 
 module _ {X : Type 0} (xs ys : List X) (m columns i n : ℕ) where
@@ -17,29 +17,18 @@ module _ {X : Type 0} (xs ys : List X) (m columns i n : ℕ) where
         at ys d k (k + 0 * (m * columns - n * m)) (omega (arith, zero-mul (m * columns - n * m))) ∙ h.lower k 0 d l b (lit< tt)
         ∙ at xs d (k + n * m + 0 * (m * columns)) (k + n * m) (omega (arith, zero-mul (m * columns)))
 
-  module _ (h : Extended xs ys (block_of Columns m columns i n)) where
-    pub extended_before : (k : ℕ) (d : X) → k < i * m → get_or ys k d ≡ get_or xs k d
-    extended_before k d l =
+  module _ (cell : ℕ → ℕ → X → X) (h : Joined xs ys (block_of Columns m columns i n) cell) where
+    pub joined_before : (k : ℕ) (d : X) → k < i * m → get_or ys k d ≡ get_or xs k d
+    joined_before k d l =
         at ys d k (k + 0 * (m * columns + n * m)) (omega (arith, zero-mul (m * columns + n * m))) ∙ h.upper k 0 d l (lit< tt)
         ∙ at xs d (k + 0 * (m * columns)) k (omega (arith, zero-mul (m * columns)))
 
-    pub extended_behind : (k : ℕ) (d : X) → i * m ≤ k → k < m * columns → get_or ys (k + n * m) d ≡ get_or xs k d
-    extended_behind k d l b =
-        at ys d (k + n * m) (k + n * m + 0 * (m * columns + n * m)) (omega (arith, zero-mul (m * columns + n * m))) ∙ h.lower k 0 d l b (lit< tt)
-        ∙ at xs d (k + 0 * (m * columns)) k (omega (arith, zero-mul (m * columns)))
-
-  module _ (v : X) (h : Inserted xs ys (block_of Columns m columns i n) v) where
-    pub inserted_before : (k : ℕ) (d : X) → k < i * m → get_or ys k d ≡ get_or xs k d
-    inserted_before k d l =
-        at ys d k (k + 0 * (m * columns + n * m)) (omega (arith, zero-mul (m * columns + n * m))) ∙ h.upper k 0 d l (lit< tt)
-        ∙ at xs d (k + 0 * (m * columns)) k (omega (arith, zero-mul (m * columns)))
-
-    pub inserted_new : (k : ℕ) (d : X) → k < n * m → get_or ys (i * m + k) d ≡ v
-    inserted_new k d l =
+    pub joined_new : (k : ℕ) (d : X) → k < n * m → get_or ys (i * m + k) d ≡ cell k 0 d
+    joined_new k d l =
         at ys d (i * m + k) (i * m + k + 0 * (m * columns + n * m)) (omega (arith, zero-mul (m * columns + n * m))) ∙ h.put k 0 d l (lit< tt)
 
-    pub inserted_behind : (k : ℕ) (d : X) → i * m ≤ k → k < m * columns → get_or ys (k + n * m) d ≡ get_or xs k d
-    inserted_behind k d l b =
+    pub joined_behind : (k : ℕ) (d : X) → i * m ≤ k → k < m * columns → get_or ys (k + n * m) d ≡ get_or xs k d
+    joined_behind k d l b =
         at ys d (k + n * m) (k + n * m + 0 * (m * columns + n * m)) (omega (arith, zero-mul (m * columns + n * m))) ∙ h.lower k 0 d l b (lit< tt)
         ∙ at xs d (k + 0 * (m * columns)) k (omega (arith, zero-mul (m * columns)))
 

@@ -135,7 +135,7 @@ module _ (rows columns last i n : ℕ) (whole : columns ≡ last + 1) where
                 let k : ℕ = r - i in
                 t.above (r + n + q * (rows + n)) d (omega arith) ∙ at ys d (r + n + q * (rows + n)) (to + k) (omega arith) ∙ s.put k d (omega arith) ∙ at xs d (from + k) (r + q * rows) (omega arith)
           ];
-          gap = λ r q d h l. elim (cases_lt q last) [
+          put = λ r q d h l. elim (cases_lt q last) [
             | inl o ↦ t.gap r q d h o ∙ s.below (i + r + q * (rows + n)) d (omega (arith, columns_lt q last (rows + n) o))
             | inr o ↦
                 let pg : q * (rows + n) ≡ last * (rows + n) = columns_same q last (rows + n) (omega arith) in

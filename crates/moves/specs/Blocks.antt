@@ -1,5 +1,5 @@
 -- The lines of a side, and some of them as rows of a table.
-use Rattle.std.specs.Prelude.{◌≡◌, ℕ, ◌+◌, ◌*◌, ◌≤◌}
+use Rattle.std.specs.Prelude.{◌≡◌, ℕ, ◌+◌, ◌-◌, ◌*◌, ◌≤◌, min}
 use Rattle.layout.specs.declared.side.Side.{Side}
 use Rattle.layout.specs.declared.side.Side.TheVariants.{Rows, Columns}
 use Rattle.moves.specs.declared.vec_storage.Block.{Block}
@@ -57,3 +57,7 @@ Inside b cells = (b.first + b.count ≤ b.rows) × (b.rows * b.columns ≤ cells
 -- with the block's rows more the table lies in so many cells
 abbrev pub Opens : Block → ℕ → Type 0
 Opens b cells = (b.first ≤ b.rows) × ((b.rows + b.count) * b.columns ≤ cells)
+
+-- how many cells of a table of R rows and C columns one of m rows and n columns has no place for
+abbrev pub count_of_lost : (R C m n : ℕ) → ℕ
+count_of_lost R C m n = R * C - min R m * min C n

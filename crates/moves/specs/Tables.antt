@@ -18,14 +18,6 @@ pub record Opened {X : Type 0} (xs ys : List X) (b : Block) : Type 0 where
   pub below : (k : ℕ) (d : X) → k < b.first + b.count → slice_index_or ys k d ≡ slice_index_or xs k d
   pub above : (k : ℕ) (d : X) → b.first + b.columns * (b.rows + b.count) ≤ k → slice_index_or ys k d ≡ slice_index_or xs k d
 
--- ys holds the table of xs with the block's rows more, and in those what stood at their places
-pub record Extended {X : Type 0} (xs ys : List X) (b : Block) : Type 0 where
-  pub long : length ys ≡ length xs
-  pub upper : (r c : ℕ) (d : X) → r < b.first → c < b.columns → slice_index_or ys (r + c * (b.rows + b.count)) d ≡ slice_index_or xs (r + c * b.rows) d
-  pub gap : (r c : ℕ) (d : X) → r < b.count → c < b.columns → slice_index_or ys (b.first + r + c * (b.rows + b.count)) d ≡ slice_index_or xs (b.first + r + c * (b.rows + b.count)) d
-  pub lower : (r c : ℕ) (d : X) → b.first ≤ r → r < b.rows → c < b.columns → slice_index_or ys (r + b.count + c * (b.rows + b.count)) d ≡ slice_index_or xs (r + c * b.rows) d
-  pub rest : (k : ℕ) (d : X) → b.columns * (b.rows + b.count) ≤ k → slice_index_or ys k d ≡ slice_index_or xs k d
-
 -- ys is xs and behind it the block's rows of src's table, column by column, rows rising
 pub record Saved {X : Type 0} (src xs ys : List X) (b : Block) : Type 0 where
   pub long : length ys ≡ length xs + b.columns * b.count
@@ -55,6 +47,10 @@ pub record Joined {X : Type 0} (xs ys : List X) (b : Block) (cell : ℕ → ℕ 
   pub put : (r c : ℕ) (d : X) → r < b.count → c < b.columns → slice_index_or ys (b.first + r + c * (b.rows + b.count)) d ≡ cell r c d
   pub lower : (r c : ℕ) (d : X) → b.first ≤ r → r < b.rows → c < b.columns → slice_index_or ys (r + b.count + c * (b.rows + b.count)) d ≡ slice_index_or xs (r + c * b.rows) d
   pub rest : (k : ℕ) (d : X) → b.columns * (b.rows + b.count) ≤ k → slice_index_or ys k d ≡ slice_index_or xs k d
+
+-- the rows are what stood at their places
+abbrev pub Extended : {X : Type 0} (xs ys : List X) → Block → Type 0
+Extended xs ys b = Joined xs ys b (λ r c d. slice_index_or xs (b.first + r + c * (b.rows + b.count)) d)
 
 -- the rows are those that src holds, column by column
 abbrev pub Restored : {X : Type 0} (src xs ys : List X) → Block → Type 0

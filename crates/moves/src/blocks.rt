@@ -1,11 +1,11 @@
 // Moves of blocks of cells inside one buffer, and copies between two.
 ghost use Rattle.std.specs.Prelude.{◌≡◌, ◌+◌, ◌≤◌, true, length};
-ghost use Rattle.moves.specs.Sizes.{Roomy};
+ghost use Rattle.std.specs.Mem.{FitsInMemory};
 ghost use Rattle.moves.specs.Slides.{Copied, Filled};
 
-// Whether a value of the type takes less than 128 KiB. The compiler knows.
+// Whether a value of the type takes less than 128 KiB. The compiler knows. Of a no nothing is said: it costs time alone.
 fn is_small<T>() -> bool
-    ensures { result ≡ true → Roomy T.row }
+    ensures { result ≡ true → FitsInMemory T.row }
 {
     size_of::<T>() < 0x2_0000
 }

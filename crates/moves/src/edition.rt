@@ -2,7 +2,7 @@
 // column c is at r + c * rows. The lines of either side are such rows.
 ghost use Rattle.std.specs.Prelude.{◌+◌, ◌-◌, ◌*◌, ◌≤◌, length};
 ghost use Rattle.moves.specs.Blocks.{Inside, Opens, SameShape, Shaped, block_in, cells_of, count_of};
-ghost use Rattle.moves.specs.Stores.{Kept, items, room};
+ghost use Rattle.moves.specs.Stores.{HasRoom, Kept, items};
 ghost use Rattle.moves.specs.Tables.{Compressed, Extended, Inserted, Opened, Put, Restored, RowsFilled, Saved};
 
 use crate::blocks::{copy_block, fill_range, slide};
@@ -69,7 +69,7 @@ pub fn extend_rows<T: Copy>(cells: &mut [T], b: Block)
 
 // Copies the rows to a store, column by column.
 pub fn save_rows<T: Copy>(cells: &[T], b: Block, saved: &mut Store<'_, T>)
-    requires { Inside b (length cells.now) × (length (items saved.old) + b.count * b.columns ≤ room saved.old) }
+    requires { Inside b (length cells.now) × HasRoom saved.old (b.count * b.columns) }
     ensures saved { Saved cells.now (items saved.old) (items saved.new) b }
     ensures kept { Kept saved.old saved.new }
 {
@@ -130,7 +130,7 @@ impl<'a, T: Copy> Table<'a, T> {
     // Copies n lines at i to a store, column by column.
     pub fn save_lines(&self, side: Side, i: u32, n: u32, saved: &mut Store<'_, T>)
         requires there { i + n ≤ count_of self.now side }
-        requires fits { length (items saved.old) + cells_of self.now side n ≤ room saved.old }
+        requires fits { HasRoom saved.old (cells_of self.now side n) }
         ensures saved { Saved self.now.cells.now (items saved.old) (items saved.new) (block_in self.now side i n) }
         ensures kept { Kept saved.old saved.new }
     {

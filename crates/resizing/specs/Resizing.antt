@@ -1,6 +1,6 @@
 -- A table of R rows and C columns that gets another shape, m rows and n columns. It lies column by column at the start of a buffer:
 -- the cell of row r and column c is at r + c * R before and at r + c * m after.
-use Rattle.std.specs.Prelude.{◌≡◌, ℕ, ◌+◌, ◌-◌, ◌*◌, ◌<◌, ◌≤◌, min, List, length, slice_index_or}
+use Rattle.std.specs.Prelude.{◌≡◌, ℕ, ◌+◌, ◌-◌, ◌*◌, ◌<◌, ◌≤◌, List, length, slice_index_or}
 
 -- ys is xs and behind it the cells of src's table outside its corner of a rows and b columns: those below the corner,
 -- then those behind it
@@ -9,10 +9,6 @@ pub record OutsideSaved {X : Type 0} (src xs ys : List X) (R C a b : ℕ) : Type
   pub first : (k : ℕ) (d : X) → k < length xs → slice_index_or ys k d ≡ slice_index_or xs k d
   pub lower : (r c : ℕ) (d : X) → r < R - a → c < b → slice_index_or ys (length xs + (r + c * (R - a))) d ≡ slice_index_or src (a + r + c * R) d
   pub behind : (k : ℕ) (d : X) → k < (C - b) * R → slice_index_or ys (length xs + (R - a) * b + k) d ≡ slice_index_or src (b * R + k) d
-
--- how many cells of a table of R rows and C columns one of m rows and n columns has no place for
-abbrev pub count_of_lost : ℕ → ℕ → ℕ → ℕ → ℕ
-count_of_lost R C m n = R * C - min R m * min C n
 
 -- ys holds the C columns of xs's table with m rows each, where v stands in those that are new
 pub record RowsResized {X : Type 0} (xs ys : List X) (R C m : ℕ) (v : X) : Type 0 where

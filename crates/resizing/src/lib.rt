@@ -8,7 +8,7 @@ ghost use Rattle.model.specs.Sheet.{resize_to};
 ghost use Rattle.model.specs.Journal.{change};
 ghost use Rattle.journal.specs.Asking.{Fits};
 ghost use Rattle.journal.specs.Answering.{Answers, Held, Performed};
-ghost use Rattle.resizing.specs.Resizing.{count_of_lost};
+ghost use Rattle.moves.specs.Blocks.{count_of_lost};
 
 use crate::shapes::{lost_count, resize_cells, save_outside};
 use journal::parts::{Note, Parts};

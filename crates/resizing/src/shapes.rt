@@ -1,7 +1,8 @@
 // A table given m rows and n columns: what it loses is saved, and then the rest moves to its new places.
 ghost use Rattle.std.specs.Prelude.{◌≡◌, ◌+◌, ◌*◌, ◌≤◌, min, length};
-ghost use Rattle.moves.specs.Stores.{Kept, items, room};
-ghost use Rattle.resizing.specs.Resizing.{OutsideSaved, Resized, RowsResized, count_of_lost};
+ghost use Rattle.moves.specs.Stores.{HasRoom, Kept, items};
+ghost use Rattle.moves.specs.Blocks.{count_of_lost};
+ghost use Rattle.resizing.specs.Resizing.{OutsideSaved, Resized, RowsResized};
 
 use layout::side::Side;
 use moves::blocks::fill_range;
@@ -58,7 +59,7 @@ pub fn resize_cells<T: Copy>(table: &mut Table<'_, T>, m: u32, n: u32, v: T)
 // Copies the cells that a shape of m rows and n columns has no place for to a store: those below the corner that
 // stays, then those behind it. So they stand column by column, rows rising.
 pub fn save_outside<T: Copy>(table: &Table<'_, T>, m: u32, n: u32, saved: &mut Store<'_, T>)
-    requires { length (items saved.old) + count_of_lost table.now.rows table.now.columns m n ≤ room saved.old }
+    requires { HasRoom saved.old (count_of_lost table.now.rows table.now.columns m n) }
     ensures saved { OutsideSaved table.now.cells.now (items saved.old) (items saved.new) table.now.rows table.now.columns (min table.now.rows m) (min table.now.columns n) }
     ensures kept { Kept saved.old saved.new }
 {

@@ -81,12 +81,12 @@ refilled_reachable {A} grid law source p q (Err e) reachable rules same = subst 
 -- parts that hold nothing yet
 module _ {A : Type 0} (p : Parts A) (cells : List A) (es : List Entry) (rs : List Run) (ks : List A) (h : Holds p cells es rs ks) where
   pub holds_room : room_of p ≡ room_in cells es rs ks
-  holds_room = same_room _ _ _ _ _ _ _ _ (ap length h.cells) (ap length h.entries_stand) (ap length h.runs_stand) (ap length h.saved_stand)
+  holds_room = same_room _ _ _ _ _ _ _ _ (ap length h.cells) (ap length h.entries.stand) (ap length h.runs.stand) (ap length h.saved.stand)
 
   holds_opened : cells ≡ [] → view p ≡ opened no_table (room_in cells es rs ks)
   holds_opened e =
       same_sheet (view p) (opened no_table (room_in cells es rs ks)) h.rows h.columns (ap₂ take (ap₂ ◌*◌ h.rows h.columns) (h.cells ∙ e))
-      (ap (λ zs. map entry_of (reverse zs)) h.entries) (ap (map run_of) h.runs) h.saved holds_room
+      (ap (λ zs. map entry_of (reverse zs)) h.entries.none) (ap (map run_of) h.runs.none) h.saved.none holds_room
 
 pub empty_opened : {A : Type 0} (p : Parts A) → Holds p [] [] [] [] → view p ≡ opened no_table (room 0 0 0 0)
 empty_opened p h = holds_opened p [] [] [] [] h refl

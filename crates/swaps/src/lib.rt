@@ -28,12 +28,11 @@ fn swap_cells<T: Copy>(table: &mut Table<'_, T>, side: Side, i: u32, j: u32)
     ensures shape { SameShape table.old table.new }
 {
     let whole = Dense::make(table.rows, table.columns);
-    // The lines are there, so neither is refused; a `?` would make a refusal of it. Two calls, as in the source: `edition`
-    // says both by one text.
-    let _ = match side {
-        Side::Rows => edition::swap_rows(&whole, table.cells, i, j),
-        Side::Columns => edition::swap_columns(&whole, table.cells, i, j),
-    };
+    // Two calls, as in the source: `edition` says both by one text.
+    match side {
+        Side::Rows => edition::exchange_rows(&whole, table.cells, i, j),
+        Side::Columns => edition::exchange_columns(&whole, table.cells, i, j),
+    }
 }
 
 // Lines i and j change places.

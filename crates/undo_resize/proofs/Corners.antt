@@ -7,29 +7,6 @@ use Rattle.moves.proofs.Places.{columns_lt, columns_split, columns_sum, columns_
 use Rattle.model.proofs.Resized.{outside}
 use Rattle.undo_resize.specs.Back.{RowsBack, ShapeBack}
 
-module _ {X : Type 0} (src xs ys : List X) (m R C : ℕ) where
-  -- rows put back behind the last one
-  pub grown : m < R → Restored src xs ys (rows_block m C m (R - m)) → RowsBack src xs ys m R C
-  grown more h =
-      let e : m + (R - m) ≡ R = omega arith in
-      record {
-        long = h.long;
-        stay = λ r c d a b k. ap (λ z. get_or ys (r + c * z) d) (sym e) ∙ h.upper r c d a k;
-        lower = λ r c d a k. ap (λ z. get_or ys (m + r + c * z) d) (sym e) ∙ h.put r c d a k;
-        rest = λ k d a. let f : C * (m + (R - m)) ≡ C * R = ap (λ z. C * z) e in h.rest k d (omega arith);
-      }
-
-  -- the last rows taken out
-  pub cut : R ≤ m → Compressed xs ys (rows_block m C R (m - R)) → RowsBack src xs ys m R C
-  cut less h =
-      let e : m - (m - R) ≡ R = omega arith in
-      record {
-        long = h.long;
-        stay = λ r c d a b k. ap (λ z. get_or ys (r + c * z) d) (sym e) ∙ h.upper r c d b k;
-        lower = λ r c d a k. absurd (omega arith);
-        rest = λ k d a. let f : C * (m - (m - R)) ≡ C * R = ap (λ z. C * z) e in h.rest k d (omega arith);
-      }
-
 -- b columns are in both shapes
 module _ (m n R C b : ℕ) (both : b ≡ min C n) where
   -- the cells below the corner, and then those behind it

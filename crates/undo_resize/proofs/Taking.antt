@@ -1,6 +1,7 @@
 -- The newest change, a resize, taken back.
 use Rattle.std.proofs.Common.{◌≡◌, ℕ, ◌-◌, ◌*◌, ◌≤◌, min, List, ◌++◌, length, take, drop, sym, ap, ◌∙◌, subst, ap₂, arith, length-append}
 use Rattle.std.proofs.Math.Seq.{drop-append_seam}
+use Rattle.moves.specs.Blocks.{count_of_lost}
 use Rattle.moves.specs.Stores.{items}
 use Rattle.model.specs.Sheet.{resize_to, Table, rows_of, columns_of, changed}
 use Rattle.model.specs.Journal as model
@@ -22,7 +23,7 @@ module _ {A : Type 0} (p : Parts A) (e : Entry) (held : Held p) (is : leaving.Ne
     (src : List A) (own : src ≡ drop (length (items p.saved) - e.cells) (items p.saved)) where
   -- how many cells the shape now has no place for
   abbrev lost : ℕ
-  lost = e.rows * e.columns - min e.rows p.table.rows * min e.columns p.table.columns
+  lost = count_of_lost e.rows e.columns p.table.rows p.table.columns
 
   module _ (w : Newest (view p)) where
     form : Resized w.last
@@ -64,7 +65,7 @@ module _ {A : Type 0} (p : Parts A) (e : Entry) (held : Held p) (is : leaving.Ne
     own_count =
         ap length (own_lost ∙ ap (lost_of w.former.table) last_is)
         ∙ (resized w.former.table p.table.rows p.table.columns form.value w.bounds.right).lost
-        ∙ ap₂ (λ R C. R * C - min R p.table.rows * min C p.table.columns) (sym rows_as_before) (sym columns_as_before)
+        ∙ ap₂ (λ R C. count_of_lost R C p.table.rows p.table.columns) (sym rows_as_before) (sym columns_as_before)
 
     pub table_back : (zs : List A) → ShapeBack src p.table.cells.now zs p.table.rows p.table.columns e.rows e.columns
         → take (w.former.table.rows * w.former.table.columns) zs ≡ w.former.table.cells

@@ -1,6 +1,6 @@
 // A table given its former shape: the cells that it has no place for now come back from another buffer.
-ghost use Rattle.std.specs.Prelude.{◌-◌, ◌*◌, ◌≤◌, min, length};
-ghost use Rattle.moves.specs.Blocks.{SameShape};
+ghost use Rattle.std.specs.Prelude.{◌-◌, ◌*◌, ◌≤◌, length};
+ghost use Rattle.moves.specs.Blocks.{SameShape, count_of_lost};
 ghost use Rattle.undo_resize.specs.Back.{RowsBack, ShapeBack};
 
 use moves::blocks::copy_block;
@@ -35,7 +35,7 @@ fn bring_back_rows<T: Copy>(saved: &[T], cells: &mut [T], m: usize, rows: usize,
 // caller.
 pub fn bring_back_shape<T: Copy>(saved: &[T], table: &mut Table<'_, T>, rows: u32, columns: u32)
     requires fits { rows * columns ≤ length table.old.cells.now }
-    requires there { rows * columns - min rows table.old.rows * min columns table.old.columns ≤ length saved.now }
+    requires there { count_of_lost rows columns table.old.rows table.old.columns ≤ length saved.now }
     ensures cells { ShapeBack saved.now table.old.cells.now table.new.cells.now table.old.rows table.old.columns rows columns }
     ensures shape { SameShape table.old table.new }
 {

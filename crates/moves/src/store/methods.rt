@@ -1,12 +1,11 @@
 ghost use Rattle.std.specs.Prelude.{◌≡◌, ◌+◌, ◌-◌, ◌<◌, ◌≤◌, [], ◌∷◌, length, take, drop};
-ghost use Rattle.moves.specs.Stores.{Grown, items, room, stands};
+ghost use Rattle.moves.specs.Stores.{Emptied, Grown, HasRoom, Shortened, items, room, stands};
 
 use super::Store;
 
 impl<'a, X> Store<'a, X> {
     pub fn new(places: &'a mut [X]) -> Store<'a, X>
-        ensures empty { items result ≡ [] }
-        ensures same { stands result ≡ places.old }
+        ensures { Emptied result places.old }
     {
         Store { places, used: 0 }
     }
@@ -43,15 +42,13 @@ impl<'a, X> Store<'a, X> {
     // Forgets the last n items.
     pub fn forget(&mut self, n: usize)
         requires { n ≤ length (items self.old) }
-        ensures left { items self.new ≡ take (length (items self.old) - n) (items self.old) }
-        ensures same { stands self.new ≡ stands self.old }
+        ensures { Shortened self.old self.new n }
     {
         self.used -= n;
     }
 
     pub fn clear(&mut self)
-        ensures empty { items self.new ≡ [] }
-        ensures same { stands self.new ≡ stands self.old }
+        ensures { Emptied self.new (stands self.old) }
     {
         self.used = 0;
     }
@@ -59,7 +56,7 @@ impl<'a, X> Store<'a, X> {
 
 impl<'a, X: Copy> Store<'a, X> {
     pub fn push(&mut self, item: X)
-        requires { length (items self.old) < room self.old }
+        requires { HasRoom self.old 1 }
         ensures { Grown self.old self.new (item ∷ []) }
     {
         self.places[self.used] = item;
@@ -67,7 +64,7 @@ impl<'a, X: Copy> Store<'a, X> {
     }
 
     pub fn extend_from_slice(&mut self, list: &[X])
-        requires { length (items self.old) + length list.now ≤ room self.old }
+        requires { HasRoom self.old (length list.now) }
         ensures { Grown self.old self.new list.now }
     {
         let end = self.used + list.len();

@@ -85,10 +85,8 @@ impl<'a, T> Table<'a, T> {
     pub fn cells_in(&self, side: Side, n: u32) -> usize
         ensures { result ≡ cells_of self.now side n }
     {
-        match side {
-            Side::Rows => n as usize * self.columns as usize,
-            Side::Columns => self.rows as usize * n as usize,
-        }
+        let shape = self.shape_with(side, n as usize);
+        shape.0 * shape.1
     }
 
     // The n lines at i as rows. A column is `rows` rows of the table seen as one column.

@@ -1,7 +1,7 @@
 use Rattle.std.proofs.Common.{◌≡◌, sym, ap, subst, arith}
 use base.Stored.{Coded-set}
 use Rattle.layout.specs.Lawful.{dense}
-use Rattle.leaving.proofs.Undoing.{leaves, moved_back, moved_leaves, undone}
+use Rattle.leaving.proofs.Undoing.{moved_leaves, moved_undone}
 use Rattle.swaps.specs.Exchange.{Swapped}
 use Rattle.swaps.proofs.Exchanging.{swapped_long}
 use Rattle.swaps.proofs.Back.{lines_there, swapped_back}
@@ -16,7 +16,7 @@ pub leave-requires : goal.leave-requires
 leave-requires g c =
     let p = c.args.p.now in
     let e = c.args.entry in
-    moved_leaves p c.swap_cells.new.table e (swapped_long c.args.side _ _ _ _ _ c.swap_cells.ensures.cells) (leaves p e c.requires.held c.requires.newest)
+    moved_leaves p c.swap_cells.new.table e c.requires.held c.requires.newest (swapped_long c.args.side _ _ _ _ _ c.swap_cells.ensures.cells)
 
 pub returns : goal.returns
 returns g c =
@@ -27,8 +27,7 @@ returns g c =
     let j = c.args.j in
     let s = c.swap_cells.ensures.cells in
     let left : c.swap_cells.new.table.cells.now ≡ c.leave.new.p.table.cells.now = sym (ap (λ r. r.now) c.leave.ensures.cells) in
-    undone p e c.requires.held c.requires.newest c.leave.new.p
-    (moved_back p c.swap_cells.new.table e (swapped_long side _ _ _ _ _ s) c.leave.new.p c.leave.ensures.rest)
+    moved_undone p c.swap_cells.new.table e c.requires.held c.requires.newest (swapped_long side _ _ _ _ _ s) c.leave.new.p c.leave.ensures.rest
     (Coded-set g.row.T.coded)
     (swapped_back p e c.requires.held c.requires.newest side i j c.requires.noted _
     (subst (λ z. Swapped side (dense p.table.rows p.table.columns) p.table.cells.now z i j) left s))

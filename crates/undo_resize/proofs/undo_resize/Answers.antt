@@ -1,6 +1,6 @@
 use Rattle.std.proofs.Common.{◌*◌, take, ap, ◌∙◌, arith}
 use base.Stored.{Coded-set}
-use Rattle.leaving.proofs.Undoing.{leaves, moved_back, moved_leaves, own_cells, undone}
+use Rattle.leaving.proofs.Undoing.{leaves, moved_leaves, moved_undone, own_cells}
 use Rattle.undo_resize.proofs.Taking.{all_there, table_back}
 use Rattle.undo_resize.proofs.undo_resize.Goals as goal
 
@@ -11,8 +11,7 @@ returns g c =
     let held = c.requires.held in
     let is = c.requires.newest in
     let h = c.bring_back_shape.ensures.cells in
-    undone p e held is c.leave.new.p
-    (moved_back p c.bring_back_shape.new.table e (h.long) c.leave.new.p c.leave.ensures.rest)
+    moved_undone p c.bring_back_shape.new.table e held is h.long c.leave.new.p c.leave.ensures.rest
     (Coded-set g.row.T.coded)
     (λ v. ap (λ r. take (v.former.table.rows * v.former.table.columns) r.now) c.leave.ensures.cells ∙ table_back p e held is c.requires.noted _ c.newest-own.ensures v _ h)
 
@@ -30,4 +29,4 @@ pub leave-requires : goal.leave-requires
 leave-requires g c =
     let p = c.args.p.now in
     let e = c.args.entry in
-    moved_leaves p c.bring_back_shape.new.table e c.bring_back_shape.ensures.cells.long (leaves p e c.requires.held c.requires.newest)
+    moved_leaves p c.bring_back_shape.new.table e c.requires.held c.requires.newest c.bring_back_shape.ensures.cells.long

@@ -1,7 +1,7 @@
 use Rattle.std.proofs.Common.{◌≡◌, ◌<◌, ◌⊎◌}
 use Rattle.layout.specs.Written.{Written, cell_of}
 use Rattle.edition.specs.Swaps.{other}
-use Rattle.edition.proofs.swap_rows.Given as goal
+use Rattle.edition.proofs.exchange_rows.Given as goal
 
 abbrev pub invariant-loop-column : goal.invariant-loop-column
 invariant-loop-column g l =

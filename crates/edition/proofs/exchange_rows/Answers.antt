@@ -1,6 +1,6 @@
 use Rattle.std.proofs.Common.{arith}
 use Rattle.edition.proofs.Swapping.{swapped_more}
-use Rattle.edition.proofs.swap_rows.Goals as goal
+use Rattle.edition.proofs.exchange_rows.Goals as goal
 
 pub swap-requires : goal.swap-requires
 swap-requires g c =
@@ -9,7 +9,7 @@ swap-requires g c =
     let q = law.within c.args.j c.loop-column.column (omega arith) (omega arith) in
     let i = c.place-p.ensures.inside (omega arith) (omega arith) in
     let j = c.place-q.ensures.inside (omega arith) (omega arith) in
-    let room = c.in_ok-ask_span.ensures.0 in
+    let room = c.requires.1.0 in
     record { a_in_bounds = omega (arith, room); b_in_bounds = omega (arith, room) }
 
 pub loop-column-preserved : goal.loop-column-preserved
