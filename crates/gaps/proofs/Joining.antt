@@ -1,7 +1,6 @@
 -- A gap opened and then filled is one change.
-use Rattle.std.proofs.Common.{◌≡◌, ℕ, ◌+◌, ◌*◌, true, false, List, [], ◌∷◌, map, is_err, Ok, Err, Result, sym, refl, ap, ◌∙◌, subst, ap₂, arith, append-nil}
+use Rattle.std.proofs.Common.{◌≡◌, ℕ, ◌+◌, true, false, List, [], ◌∷◌, map, is_err, Ok, Err, Result, sym, refl, ap, ◌∙◌, subst, append-nil}
 use mathlib.Core.Logic.{∥∥₁_elim, ∥∥₁_prop}
-use native.Mathlib.Bridge.{le_prop}
 use Rattle.std.proofs.lemmas.Bool.{both_ways}
 use Rattle.layout.specs.declared.refusal.Refusal.{Refusal}
 use Rattle.layout.specs.declared.side.Side.{Side}
@@ -17,7 +16,7 @@ use Rattle.journal.specs.Answering.{Answers, Held, Performed}
 use Rattle.journal.proofs.Asking.{verdict_is}
 use Rattle.journal.proofs.Answering.{accepted, entered, nothing_lost, refuses, right, same_room}
 use Rattle.gaps.specs.Taken.{RowsTaken}
-use Rattle.gaps.specs.Gaps.{Roomy, Parted, Left, Filled, Fills}
+use Rattle.gaps.specs.Gaps.{Parted, Left, Filled, Fills}
 use Rattle.gaps.proofs.Questions.{gap_counts, gap_lost}
 use Rattle.gaps.proofs.Cells.{gap_cells}
 
@@ -60,43 +59,7 @@ fills_none {A} q side i n (Err e) vs v no_gap p gap =
     let ch : Change A = fill_lines (side_of side) i n vs v in
     subst (λ z. Answers p z (change ch) (Err e)) (sym gap.opened) (refuses p ch e gap.held (gap.which vs v))
 
--- an open gap has its place and its room still
-parted_roomy : {A : Type 0} (p q : Parts A) (side : Side) (i n : ℕ) → Parted p q side i n → Roomy q side i n
-parted_roomy p q side i n o =
-    let fits = o.room.fits in
-    let lines : lines_in side q.table.rows q.table.columns ≡ lines_in side p.table.rows p.table.columns = ap₂ (lines_in side) o.shape.0 o.shape.1 in
-    let rows = ap₂ (λ (k m : ℕ). rows_with side (k + n) m) lines o.shape.0 in
-    let columns = ap₂ (λ (k m : ℕ). columns_with side (k + n) m) lines o.shape.1 in
-    record {
-      there = omega (arith, lines, o.room.there);
-      fits = record {
-        rows = omega (arith, rows, fits.rows);
-        columns = omega (arith, columns, fits.columns);
-        cells = omega (arith, ap₂ ◌*◌ rows columns, o.cells.long, fits.cells);
-        entries = rw o.entries fits.entries;
-        runs = rw o.runs fits.runs;
-        saved = rw o.saved fits.saved;
-      };
-    }
-
-left_roomy : {A : Type 0} (q : Parts A) (side : Side) (i n : ℕ) (r : Result Unit Refusal) → false ≡ is_err r → Left q side i n r → Roomy q side i n
-left_roomy q side i n (Err e) ok w = absurd (both_ways false refl ok)
-left_roomy q side i n (Ok u) ok w = parted_roomy w.former q side i n w.gap.opened
-
 module _ {A : Type 0} (q : Parts A) (side : Side) (i n : ℕ) (r : Result Unit Refusal) (w : ∥ Left q side i n r ∥₁) where
-  pub roomy : false ≡ is_err r → Roomy q side i n
-  roomy ok = record {
-    there = ∥∥₁_elim w le_prop (λ z. (left_roomy q side i n r ok z).there);
-    fits = record {
-      rows = ∥∥₁_elim w le_prop (λ z. (left_roomy q side i n r ok z).fits.rows);
-      columns = ∥∥₁_elim w le_prop (λ z. (left_roomy q side i n r ok z).fits.columns);
-      cells = ∥∥₁_elim w le_prop (λ z. (left_roomy q side i n r ok z).fits.cells);
-      entries = ∥∥₁_elim w le_prop (λ z. (left_roomy q side i n r ok z).fits.entries);
-      runs = ∥∥₁_elim w le_prop (λ z. (left_roomy q side i n r ok z).fits.runs);
-      saved = ∥∥₁_elim w le_prop (λ z. (left_roomy q side i n r ok z).fits.saved);
-    };
-  }
-
   -- what filling leaves is a sheet
   pub filled_held : (q' : Parts A) (vs : List A) (v : A) → Fills q q' side i n r vs v → Held q'
   filled_held q' vs v f = ∥∥₁_elim w ∥∥₁_prop (λ z. (f z.former z.gap).held)

@@ -5,12 +5,11 @@ use Rattle.layout.specs.declared.side.Side.{Side}
 use Rattle.layout.specs.declared.side.Side.TheVariants.{Rows, Columns}
 use Rattle.moves.specs.Blocks.{columns_with, lines_in, rows_with}
 use Rattle.model.specs.Sheet.{fill_lines, Table}
-use Rattle.model.specs.Journal.{first_no, lost_of}
+use Rattle.model.specs.Journal.{first_no, lost_of, rooms}
 use Rattle.model.proofs.Counting.{Counts}
 use Rattle.model.proofs.Gaps.{row_gap, row_gap_lost, column_gap, column_gap_lost}
 use Rattle.journal.specs.declared.parts.Parts.{Parts}
 use Rattle.journal.specs.View.{answered, side_of, table_of, view}
-use Rattle.journal.specs.Asking.{rooms}
 use Rattle.journal.proofs.Asking.{verdict_is}
 use Rattle.gaps.specs.Gaps.{Asked}
 

@@ -1,6 +1,4 @@
-ghost use Rattle.std.specs.Prelude.{◌≡◌};
-ghost use Rattle.model.specs.Journal.{done};
-ghost use Rattle.journal.specs.View.{answered};
+ghost use Rattle.std.specs.Prelude.{IfOk};
 ghost use Rattle.journal.specs.Answering.{Held};
 ghost use Rattle.gaps.specs.Gaps.{Asked, Gap, Roomy};
 
@@ -12,7 +10,7 @@ use layout::side::Side;
 // Whether a gap of n lines can be opened before line i: questions 2, 3, 4 and 5.
 pub fn ask_gap<T>(p: &Parts<'_, T>, side: Side, i: u32, n: u32) -> Result<(), Refusal>
     ensures which { Asked p.now side i n result }
-    ensures goes { answered result ≡ done → Roomy p.now side i n }
+    ensures goes { IfOk result (λ _. Roomy p.now side i n) }
 {
     let count = p.table.count(side);
     if i > count {

@@ -5,7 +5,7 @@ use Rattle.layout.specs.declared.refusal.Refusal.{Refusal}
 use Rattle.layout.specs.Refusals.{number_of}
 use Rattle.model.specs.Sheet.{Change}
 use Rattle.model.specs.Journal as model
-use Rattle.model.specs.Journal.{Sheet, Room, Right, done, refused, first_no, verdict, tests, named_in, after, change, lost_of, settled}
+use Rattle.model.specs.Journal.{Sheet, Room, Right, done, refused, first_no, verdict, tests, named_in, after, change, lost_of, settled, rooms}
 use Rattle.model.proofs.Counting.{Counts}
 use Rattle.model.proofs.Reaching.{still_reached}
 use Rattle.model.proofs.Replays.{not_done}
@@ -15,10 +15,9 @@ use Rattle.moves.specs.Stores.{Grown, items}
 use Rattle.journal.specs.declared.parts.Entry.{Entry}
 use Rattle.journal.specs.declared.parts.Parts.{Parts}
 use Rattle.journal.specs.View.{view, table_of, entries_of, runs_of, saved_of, entry_of, run_of}
-use Rattle.journal.specs.Asking.{rooms}
 use Rattle.journal.specs.Entering.{Cleared, entry_for}
 use Rattle.journal.specs.Answering.{Held, Answers, Performed}
-use Rattle.journal.proofs.Asking.{verdict_is, refused_answer, refused_state, done_answer, done_state}
+use Rattle.journal.proofs.Asking.{stepped, verdict_is}
 use Rattle.journal.proofs.Entries.{entry_more}
 
 pub same_sheet : {A : Type 0} (s s' : Sheet A) → s.table.rows ≡ s'.table.rows → s.table.columns ≡ s'.table.columns → s.table.cells ≡ s'.table.cells
@@ -65,9 +64,10 @@ module _ {A : Type 0} (p q : Parts A) (ch : Change A) (m n : ℕ) (rs : List (�
   pub accepted : Held p → done ≡ first_no (rooms (view p) m n (length rs) l) → Answers p q (change ch) (Ok tt)
   accepted h e =
       let f = e ∙ verdict_is (view p) ch m n rs l counts in
-      let s = performed_view ∙ done_state (view p) ch f in
+      let t = stepped (view p) ch done f in
+      let s = performed_view ∙ ap (λ z. z.0) t in
       record {
-        which = done_answer (view p) ch f;
+        which = ap (λ z. z.1) t;
         state = s;
         same = λ k z. absurd (not_done k (sym z));
         held = still_reached (view p) (view q) (change ch) s h;
@@ -76,8 +76,8 @@ module _ {A : Type 0} (p q : Parts A) (ch : Change A) (m n : ℕ) (rs : List (�
 -- a change that is refused
 pub refuses : {A : Type 0} (p : Parts A) (ch : Change A) (e : Refusal) → Held p → refused (number_of e) ≡ verdict (view p) ch → Answers p p (change ch) (Err e)
 refuses p ch e h f = record {
-  which = refused_answer (view p) ch (number_of e) f;
-  state = refused_state (view p) ch (number_of e) f;
+  which = ap (λ z. z.1) (stepped (view p) ch (refused (number_of e)) f);
+  state = ap (λ z. z.0) (stepped (view p) ch (refused (number_of e)) f);
   same = λ k z. refl;
   held = h;
 }

@@ -1,16 +1,16 @@
 -- The questions, and what an accepted or a refused change answers.
-use Rattle.std.proofs.Common.{◌≡◌, ℕ, ◌+◌, ◌*◌, Bool, true, cond, ◌&&◌, ltb, leb, List, [], ◌∷◌, ◌++◌, reverse, length, sym, ap, ◌∙◌}
+use Rattle.std.proofs.Common.{◌≡◌, ℕ, Bool, true, cond, List, [], ◌∷◌, ◌++◌, reverse, length, sym, ap, ◌∙◌}
 use Rattle.std.proofs.lemmas.List.{length-reverse, length-map}
 use Rattle.layout.specs.declared.side.Side.{Side}
 use Rattle.model.specs.Sheet.{Change, rows_of, columns_of}
 use Rattle.model.specs.Journal as model
-use Rattle.model.specs.Journal.{Sheet, Answer, done, refused, first_no, verdict, named_in, has_column, lost_of, unless, after, step, change}
+use Rattle.model.specs.Journal.{Sheet, Answer, done, refused, first_no, verdict, named_in, has_column, lost_of, unless, after, step, change, rooms}
 use Rattle.model.proofs.Counting.{Counts}
 use Rattle.model.proofs.Listed.{Numbers}
 use Rattle.journal.specs.declared.parts.Parts.{Parts}
 use Rattle.moves.specs.Stores.{items}
 use Rattle.journal.specs.View.{view, entries_of, runs_of, entry_of, run_of}
-use Rattle.journal.specs.Asking.{rooms, rooms_with}
+use Rattle.journal.specs.Asking.{rooms_with}
 
 pub passes : (n : ℕ) (b : Bool) (qs : List (ℕ × Bool)) (a : Answer) → b ≡ true → a ≡ first_no qs → a ≡ first_no ((n, b) ∷ qs)
 passes n b qs a e h = h ∙ ap (λ v. cond v (first_no qs) (refused n)) (sym e)
@@ -39,9 +39,7 @@ pub verdict_of :
     → first_no (rooms s m n (length rs) l ++ ((9, has_column s.table ch) ∷ [])) ≡ verdict s ch
 verdict_of s ch m n rs l h =
     let b9 = has_column s.table ch in
-    let F : ℕ → ℕ → ℕ → ℕ → Bool → Answer = λ m n k l b2.
-    first_no ((2, b2) ∷ (3, leb m 4096 && leb n 4096) ∷ (4, leb (m * n) s.room.for_cells) ∷ (5, ltb (length s.entries) s.room.for_entries)
-    ∷ (6, leb (length s.runs + k) s.room.for_runs) ∷ (7, leb (length s.saved + l) s.room.for_saved) ∷ (9, b9) ∷ []) in
+    let F : ℕ → ℕ → ℕ → ℕ → Bool → Answer = λ m n k l b2. first_no ((2, b2) ∷ (rooms s m n k l ++ ((9, b9) ∷ []))) in
     let M = length (rows_of s.table ch) in
     let N = length (columns_of s.table ch) in
     let K = length (model.runs_of s.table ch) in
@@ -59,16 +57,6 @@ verdict_is s ch m n rs l h =
     ap (λ b. first_no (rooms s m n (length rs) l ++ ((9, b) ∷ []))) (sym h.columned)
     ∙ verdict_of s ch m n rs l (record { named = h.named; rows = h.rows; columns = h.columns; runs = h.runs; lost = h.lost })
 
--- a change that is refused
-module _ {A : Type 0} (s : Sheet A) (ch : Change A) where
-  pub refused_answer : (n : ℕ) → refused n ≡ verdict s ch → refused n ≡ (step s (change ch)).1
-  refused_answer n e = ap (λ v. (unless v s (after s ch)).1) e
-
-  pub refused_state : (n : ℕ) → refused n ≡ verdict s ch → s ≡ (step s (change ch)).0
-  refused_state n e = ap (λ v. (unless v s (after s ch)).0) e
-
-  pub done_answer : done ≡ verdict s ch → done ≡ (step s (change ch)).1
-  done_answer e = ap (λ v. (unless v s (after s ch)).1) e
-
-  pub done_state : done ≡ verdict s ch → after s ch ≡ (step s (change ch)).0
-  done_state e = ap (λ v. (unless v s (after s ch)).0) e
+-- what a change comes to, by its verdict
+pub stepped : {A : Type 0} (s : Sheet A) (ch : Change A) (a : Answer) → a ≡ verdict s ch → unless a s (after s ch) ≡ step s (change ch)
+stepped s ch a e = ap (λ v. unless v s (after s ch)) e

@@ -1,21 +1,11 @@
 -- The questions that every change puts.
-use Rattle.std.specs.Prelude.{ℕ, ◌+◌, ◌*◌, ◌≤◌, Bool, ◌&&◌, List, [], ◌∷◌, length, nat_le, nat_lt}
+use Rattle.std.specs.Prelude.{ℕ, ◌*◌, ◌≤◌, Bool, List, length}
 use Rattle.layout.specs.declared.side.Side.{Side}
 use Rattle.moves.specs.Blocks.{columns_with, rows_with}
 use Rattle.moves.specs.Stores.{HasRoom}
 use Rattle.journal.specs.declared.parts.Parts.{Parts}
 use Rattle.journal.specs.View.{view}
-use Rattle.model.specs.Journal.{Sheet}
-
--- questions 3 to 7 of a change to m rows and n columns, with k runs and l lost cells of its own
-abbrev pub rooms : {A : Type 0} → Sheet A → ℕ → ℕ → ℕ → ℕ → List (ℕ × Bool)
-rooms s m n k l =
-    (3, nat_le m 4096 && nat_le n 4096)
-    ∷ (4, nat_le (m * n) s.room.for_cells)
-    ∷ (5, nat_lt (length s.entries) s.room.for_entries)
-    ∷ (6, nat_le (length s.runs + k) s.room.for_runs)
-    ∷ (7, nat_le (length s.saved + l) s.room.for_saved)
-    ∷ []
+use Rattle.model.specs.Journal.{rooms}
 
 -- there is room for all of it
 pub record Fits {A : Type 0} (p : Parts A) (m n k l : ℕ) : Type 0 where

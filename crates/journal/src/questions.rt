@@ -1,7 +1,7 @@
-ghost use Rattle.std.specs.Prelude.{◌≡◌};
-ghost use Rattle.model.specs.Journal.{done, first_no};
+ghost use Rattle.std.specs.Prelude.{◌≡◌, IfOk};
+ghost use Rattle.model.specs.Journal.{first_no, rooms};
 ghost use Rattle.journal.specs.View.{answered, view};
-ghost use Rattle.journal.specs.Asking.{Fits, FitsWith, rooms, rooms_with};
+ghost use Rattle.journal.specs.Asking.{Fits, FitsWith, rooms_with};
 
 use super::parts::Parts;
 use layout::refusal::Refusal;
@@ -18,7 +18,7 @@ pub fn ask<T>(
     cells: usize,
 ) -> Result<(), Refusal>
     ensures which { answered result ≡ first_no (rooms (view p.now) rows columns runs cells) }
-    ensures goes { answered result ≡ done → Fits p.now rows columns runs cells }
+    ensures goes { IfOk result (λ _. Fits p.now rows columns runs cells) }
 {
     ask_lines(rows, columns)?;
     if rows * columns > p.table.cells.len() {
@@ -45,7 +45,7 @@ pub fn ask_with<T>(
     cells: usize,
 ) -> Result<(), Refusal>
     ensures which { answered result ≡ first_no (rooms_with p.now side k runs cells) }
-    ensures goes { answered result ≡ done → FitsWith p.now side k runs cells }
+    ensures goes { IfOk result (λ _. FitsWith p.now side k runs cells) }
 {
     let (rows, columns) = p.table.shape_with(side, k);
     ask(p, rows, columns, runs, cells)

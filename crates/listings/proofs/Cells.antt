@@ -5,7 +5,8 @@ use Rattle.std.proofs.lemmas.List.{drop-drop}
 use Rattle.std.proofs.lemmas.Bool.{eqb-true}
 use Rattle.model.specs.Sheet.{listed, remove_listed, Table, cell_at, changed}
 use Rattle.model.specs.Journal.{begun, runs_from, lines_of, lost_of}
-use Rattle.model.proofs.Grids.{one_column, joined-++, take_then, all_counting}
+use Rattle.model.proofs.Grids.{one_column, take_then, all_counting}
+use Rattle.std.proofs.lemmas.List.Concat.{flat_map-append}
 use Rattle.model.proofs.Edits.{lines_runs}
 use Rattle.model.proofs.Joins.{cell_of_lem, joined_same}
 use Rattle.model.proofs.Listed.{selected, kept, all_below_lem, rows_listed_cells, rows_listed_lost, columns_listed_cells, columns_listed_lost}
@@ -67,7 +68,7 @@ lines_back xs w (suc n) a =
 lines_taken : {A : Type 0} (w : ℕ) (xs : List A) (rs : List (ℕ × ℕ)) → flat_map (λ l. take w (drop (l * w) xs)) (lines_of rs) ≡ taken w xs rs
 lines_taken w xs [] = refl
 lines_taken w xs (r ∷ rs) =
-    joined-++ (λ l. take w (drop (l * w) xs)) (range_with_len r.0 r.1) (lines_of rs) ∙ ap₂ ◌++◌ (lines_back xs w r.1 r.0) (lines_taken w xs rs)
+    flat_map-append (λ l. take w (drop (l * w) xs)) (range_with_len r.0 r.1) (lines_of rs) ∙ ap₂ ◌++◌ (lines_back xs w r.1 r.0) (lines_taken w xs rs)
 
 by_columns : {A : Type 0} (t : Table A) (ks ls : List ℕ) → selected t ks ls ≡ flat_map (λ c. flat_map (λ r. cell_at t r c) ks) ls
 by_columns t ks [] = refl

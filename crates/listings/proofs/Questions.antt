@@ -3,12 +3,11 @@ use Rattle.std.proofs.Common.{◌≡◌, ℕ, Bool, true, false, cond, List, [],
 use Rattle.layout.specs.declared.refusal.Refusal.{Refusal}
 use Rattle.layout.specs.Refusals.{number_of}
 use Rattle.model.specs.Sheet.{Change}
-use Rattle.model.specs.Journal.{done, refused, first_no, has_column, change}
+use Rattle.model.specs.Journal.{done, refused, first_no, has_column, change, rooms}
 use Rattle.model.proofs.Replays.{not_done}
 use Rattle.model.proofs.Listed.{Numbers}
 use Rattle.journal.specs.declared.parts.Parts.{Parts}
 use Rattle.journal.specs.View.{view, table_of}
-use Rattle.journal.specs.Asking.{rooms}
 use Rattle.journal.specs.Answering.{Held, Answers}
 use Rattle.journal.proofs.Asking.{verdict_of}
 use Rattle.journal.proofs.Answering.{refuses}

@@ -5,13 +5,10 @@ use Rattle.std.specs.List.{range_with_len}
 use Rattle.std.proofs.lemmas.List.{length-map}
 use Rattle.std.proofs.lemmas.List.FromFn.{fill_by_all}
 use Rattle.model.specs.Sheet.{Origin, old, new, Edit, keep, insert, remove, remove_at, swap, origins, Side, row, column, Change, insert_lines, remove_lines, remove_listed, swap_lines, fill_lines, resize_to, on, edit}
+use mathlib.Core.List.{map-map}
 use Rattle.model.specs.History.{final}
 use Rattle.model.specs.Provenance.{left, descent, descents, line, Told, mine, call_on, calls_on, Interleaved}
 use Rattle.model.proofs.Descents.{cells}
-
-map_map : {X Y Z : Type 0} (g : Y → Z) (f : X → Y) (xs : List X) → map g (map f xs) ≡ map (λ x. g (f x)) xs
-map_map g f [] = refl
-map_map g f (x ∷ xs) = ap (λ z. g (f x) ∷ z) (map_map g f xs)
 
 get_d_mapped : {X Y : Type 0} (f : X → Y) (xs : List X) (k : ℕ) (d : X) → get_or (map f xs) k (f d) ≡ f (get_or xs k d)
 get_d_mapped f [] k d = refl
@@ -48,7 +45,7 @@ ages_by-++ (x ∷ xs) ys ages = ap (next x) (ages_by-++ xs ys ages)
 
 next_keep : (ages : List ℕ) → next keep ages ≡ ages
 next_keep ages =
-    map_map (look ages) old (range_with_len 0 (length ages))
+    map-map (look ages) old (range_with_len 0 (length ages))
     ∙ sym (fill_by_all (λ k. get_or ages k 1) ages (length ages) 1 refl (λ k h. refl))
 
 next_on : (s s' : Side) (e : Edit) (ages : List ℕ) → next (on s s' e) ages ≡ ages_by (mine s s' e) ages
@@ -71,11 +68,11 @@ age_descent t B (old k) = sym (get_d_mapped age B k (0, 0))
 age_descent t B (new j) = refl
 
 ages : {A : Type 0} (s : Side) (m : ℕ) (chs : List (Change A)) → map age (descents s m chs) ≡ ages_by (calls_on s chs) (map suc (range_with_len 0 m))
-ages s m [] = map_map age (λ k. (0, k)) (range_with_len 0 m)
+ages s m [] = map-map age (λ k. (0, k)) (range_with_len 0 m)
 ages s m (ch ∷ chs) =
     let B = descents s m chs in
     let start = map suc (range_with_len 0 m) in
-    map_map age (descent (suc (length chs)) B) (origins (edit s ch) (length B))
+    map-map age (descent (suc (length chs)) B) (origins (edit s ch) (length B))
     ∙ ap₂ (λ f n. map f (origins (edit s ch) n)) (fun_ext (age_descent (length chs) B)) (sym (length-map B age))
     ∙ ap (next (edit s ch)) (ages s m chs)
     ∙ next_call s ch (ages_by (calls_on s chs) start)

@@ -6,7 +6,8 @@ use Rattle.std.proofs.lemmas.List.FromFn.{length-range_with_len}
 use Rattle.std.proofs.ByRecursion.{all_kept_by}
 use Rattle.model.specs.Sheet.{old, listed, row, column, Change, remove_listed, Table, cell_at, cell_of, pairs, rows_of, columns_of, changed}
 use Rattle.model.specs.Journal.{Right, begun, runs_from, lines_of, runs_of, lost_of, named_in, has_column}
-use Rattle.model.proofs.Grids.{Single, one_column, joined_map, length_grid, single_cell, all_counting}
+use Rattle.model.proofs.Grids.{Single, one_column, length_grid, single_cell, all_counting}
+use Rattle.std.proofs.lemmas.List.Folds.{flat_map-map}
 use Rattle.model.proofs.Edits.{lines_runs}
 use Rattle.model.proofs.Lines.{keep_length, keep_stays, others_stays}
 use Rattle.model.proofs.Regions.{lost_rows, lost_columns}
@@ -69,7 +70,7 @@ selected_old :
 selected_old t ch ks [] = refl
 selected_old t ch ks (l ∷ ls) =
     one_column (λ q. cell_of t ch q.0 q.1) (map old ks) (old l) (map old ls)
-    ∙ ap₂ ◌++◌ (joined_map (λ x. cell_of t ch x (old l)) old ks) (selected_old t ch ks ls)
+    ∙ ap₂ ◌++◌ (flat_map-map (λ x. cell_of t ch x (old l)) old ks) (selected_old t ch ks ls)
     ∙ sym (one_column (λ (q : ℕ × ℕ). cell_at t q.0 q.1) ks l ls)
 
 pub all_below_lem : (p : ℕ → Bool) (m : ℕ) (P : ℕ → Type 0) → ((k : ℕ) → k < m → P k) → All P (filter p (range_with_len 0 m))

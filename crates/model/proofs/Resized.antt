@@ -7,7 +7,8 @@ use Rattle.std.proofs.lemmas.Bool.{lt-ltb, le-ltb, le-leb, lt-leb, cases_lt, con
 use Rattle.std.proofs.Math.Bool.{and-true}
 use Rattle.model.specs.Sheet.{Origin, old, new, resize, sized, within, origins, Change, resize_to, Table, cell_at, pairs, rows_of, columns_of}
 use Rattle.model.specs.Journal.{Right, is_old, stands, survives, stays, lost_of}
-use Rattle.model.proofs.Grids.{joined-++, all_counting}
+use Rattle.model.proofs.Grids.{all_counting}
+use Rattle.std.proofs.lemmas.List.Concat.{flat_map-append}
 use Rattle.model.proofs.Laid.{counting_more, kept_all}
 use Rattle.model.proofs.Lines.{stays_at, gone_are}
 use Rattle.model.proofs.Regions.{region, region_right, rows_lost}
@@ -71,8 +72,8 @@ module _ {A : Type 0} (t : Table A) (ch : Change A) (a b : ℕ) (rows : a ≤ t.
       let across : ℕ → List (ℕ × ℕ) = λ l. map (λ k. (k, l)) (range_with_len 0 R) in
       ap (λ n. flat_map lost (pairs (range_with_len 0 R) (range_with_len 0 n))) (let e : t.columns ≡ b + (t.columns - b) = omega arith in e)
       ∙ ap (λ ls. flat_map lost (pairs (range_with_len 0 R) ls)) (counting_more 0 b (t.columns - b))
-      ∙ ap (flat_map lost) (joined-++ across (range_with_len 0 b) (range_with_len (0 + b) (t.columns - b)))
-      ∙ joined-++ lost (pairs (range_with_len 0 R) (range_with_len 0 b)) (pairs (range_with_len 0 R) (range_with_len (0 + b) (t.columns - b)))
+      ∙ ap (flat_map lost) (flat_map-append across (range_with_len 0 b) (range_with_len (0 + b) (t.columns - b)))
+      ∙ flat_map-append lost (pairs (range_with_len 0 R) (range_with_len 0 b)) (pairs (range_with_len 0 R) (range_with_len (0 + b) (t.columns - b)))
       ∙ ap₂ ◌++◌
       (rows_lost s (within a (R - a)) cell (range_with_len 0 R) (range_with_len 0 b)
       (all_counting (λ l. All (λ k. s (k, l) ≡ not (within a (R - a) k)) (range_with_len 0 R)) 0 b (λ l x y.

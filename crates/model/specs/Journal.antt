@@ -104,6 +104,7 @@ pub record Sheet (A : Type 0) : Type 0 where
   pub saved : List A
   pub room : Room
 
+-- by number: the model stands alone and knows no refusals of the code
 pub data Answer : Type 0 where
   done : Answer
   refused : ℕ → Answer
@@ -138,20 +139,22 @@ has_column t (resize_to m n v) = true
 abbrev pub named_in : {A : Type 0} → Table A → Change A → Bool
 named_in t ch = named (edit row ch) t.rows && named (edit column ch) t.columns
 
+-- questions 3 to 7 of a change to m rows and n columns, with k runs and l lost cells of its own
+abbrev pub rooms : {A : Type 0} → Sheet A → (m n k l : ℕ) → List (ℕ × Bool)
+rooms s m n k l =
+    (3, nat_le m 4096 && nat_le n 4096)
+    ∷ (4, nat_le (m * n) s.room.for_cells)
+    ∷ (5, nat_lt (length s.entries) s.room.for_entries)
+    ∷ (6, nat_le (length s.runs + k) s.room.for_runs)
+    ∷ (7, nat_le (length s.saved + l) s.room.for_saved)
+    ∷ []
+
 -- what is asked before a change, in order
 abbrev pub tests : {A : Type 0} → Sheet A → Change A → List (ℕ × Bool)
 tests s ch =
     let t = s.table in
-    let m = length (rows_of t ch) in
-    let n = length (columns_of t ch) in
     (2, named_in t ch)
-    ∷ (3, nat_le m 4096 && nat_le n 4096)
-    ∷ (4, nat_le (m * n) s.room.for_cells)
-    ∷ (5, nat_lt (length s.entries) s.room.for_entries)
-    ∷ (6, nat_le (length s.runs + length (runs_of t ch)) s.room.for_runs)
-    ∷ (7, nat_le (length s.saved + length (lost_of t ch)) s.room.for_saved)
-    ∷ (9, has_column t ch)
-    ∷ []
+    ∷ (rooms s (length (rows_of t ch)) (length (columns_of t ch)) (length (runs_of t ch)) (length (lost_of t ch)) ++ ((9, has_column t ch) ∷ []))
 
 abbrev pub verdict : {A : Type 0} → Sheet A → Change A → Answer
 verdict s ch = first_no (tests s ch)

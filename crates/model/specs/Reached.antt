@@ -30,7 +30,7 @@ pub record Bounds {A : Type 0} (s : Sheet A) : Type 0 where
   pub runs : length s.runs ≤ s.room.for_runs
   pub saved : length s.saved ≤ s.room.for_saved
 
--- s is what an accepted change of a former sheet left, and its entry is p
+-- s is what an accepted change of a former sheet left, and its entry is the newest
 pub record Newest {A : Type 0} (s : Sheet A) : Type 0 where
   pub former : Sheet A
   pub bounds : Bounds former
