@@ -4,6 +4,7 @@ use Rattle.std.specs.Prelude.{◌≡◌, ℕ, ◌+◌, ◌-◌, ◌*◌, ◌≤�
 use Rattle.std.specs.List.{range_with_len, flat_map}
 use Rattle.layout.specs.declared.side.Side.{Side}
 use Rattle.layout.specs.declared.side.Side.TheVariants.{Rows, Columns}
+use Rattle.moves.specs.declared.vec_storage.Table.{Table}
 use Rattle.journal.specs.declared.parts.Run.{Run}
 use Rattle.journal.specs.View.{run_of}
 use Rattle.listed.specs.declared.cutting.Lines.{Lines}
@@ -25,6 +26,10 @@ taken_of width size g n xs rs = flat_map (λ j. taken width (drop (j * size) xs)
 abbrev pub lines_of_side : Side → (rows columns : ℕ) → Lines
 lines_of_side Rows rows columns = record { width = 1; count = rows; groups = columns }
 lines_of_side Columns rows columns = record { width = rows; count = columns; groups = 1 }
+
+-- and those of a table
+abbrev pub lying : {A : Type 0} → Side → Table A → Lines
+lying side t = lines_of_side side t.rows t.columns
 
 -- the lines are there, and a group of them has at most 65,536 cells
 abbrev pub Lying : {A : Type 0} → Lines → List A → Type 0

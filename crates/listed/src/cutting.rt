@@ -4,7 +4,7 @@ ghost use Rattle.moves.specs.Blocks.{SameShape, count_of};
 ghost use Rattle.moves.specs.Stores.{Grown, HasRoom};
 ghost use Rattle.journal.specs.View.{run_of};
 ghost use Rattle.listed.specs.Runs.{Rising};
-ghost use Rattle.listed.specs.Cuts.{Behind, Lying, between, cut, lines_of_side, spared, taken};
+ghost use Rattle.listed.specs.Cuts.{Behind, Lying, between, cut, lying, spared, taken};
 
 use journal::parts::Run;
 use layout::side::Side;
@@ -13,8 +13,8 @@ use moves::store::Store;
 use moves::vec_storage::Table;
 
 // How the lines of a side lie in the cells: `width` cells to a line, `count` lines one behind the other, and that
-// `groups` times. A row has one cell in each column; a column is all its cells. No `Block`, which is some rows: runs count
-// lines, and there is a block for each.
+// `groups` times. A row has one cell in each column; a column is all its cells. No `Block` for each run: the runs of one
+// column are saved before those of the next.
 #[derive(Clone, Copy)]
 struct Lines {
     width: usize,
@@ -24,7 +24,7 @@ struct Lines {
 
 impl Lines {
     fn of<T>(table: &Table<'_, T>, side: Side) -> Lines
-        ensures { result ≡ lines_of_side side table.now.rows table.now.columns }
+        ensures { result ≡ lying side table.now }
     {
         let (rows, columns) = (table.rows as usize, table.columns as usize);
         match side {
@@ -43,6 +43,7 @@ impl Lines {
 }
 
 // Copies the runs of one group to a store; its first line lies at the start of the cells.
+#[tactic(auto, using(crate::proofs::Blocks::saving_inside))]
 fn save_group<T: Copy>(cells: &[T], lines: Lines, runs: &[Run], saved: &mut Store<'_, T>)
     requires rising { Rising 0 (map run_of runs.now) lines.count }
     requires inside { lines.count * lines.width ≤ length cells.now }
@@ -93,6 +94,7 @@ fn save_runs<T: Copy>(cells: &[T], lines: Lines, runs: &[Run], saved: &mut Store
     ensures { Grown saved.old saved.new (cut lines cells.now runs.now) }
 {
     let size = lines.count * lines.width;
+    // No `chunks_exact`: a group may have no cell.
     for g in 0..lines.groups {
         save_group(&cells[g * size..], lines, runs, saved);
     }
@@ -119,9 +121,9 @@ pub fn cut_runs<T: Copy>(
     saved: &mut Store<'_, T>,
 )
     requires rising { Rising 0 (map run_of runs.now) (count_of table.old side) }
-    requires fits { HasRoom saved.old (length (cut (lines_of_side side table.old.rows table.old.columns) table.old.cells.now runs.now)) }
-    ensures lost { Grown saved.old saved.new (cut (lines_of_side side table.old.rows table.old.columns) table.old.cells.now runs.now) }
-    ensures left { Behind table.old.cells.now table.new.cells.now 0 (spared (lines_of_side side table.old.rows table.old.columns) table.old.cells.now runs.now) }
+    requires fits { HasRoom saved.old (length (cut (lying side table.old) table.old.cells.now runs.now)) }
+    ensures lost { Grown saved.old saved.new (cut (lying side table.old) table.old.cells.now runs.now) }
+    ensures left { Behind table.old.cells.now table.new.cells.now 0 (spared (lying side table.old) table.old.cells.now runs.now) }
     ensures shape { SameShape table.old table.new }
 {
     let lines = Lines::of(table, side);

@@ -8,7 +8,7 @@ use Rattle.layout.specs.Refusals.{number_of}
 use Rattle.layout.specs.declared.side.Side.{Side}
 use Rattle.layout.specs.declared.side.Side.TheVariants.{Rows, Columns}
 use Rattle.moves.specs.declared.vec_storage.Table as moves
-use Rattle.moves.specs.Blocks.{cells_in, columns_with, count_of, lines_in, rows_with}
+use Rattle.moves.specs.Blocks.{cells_in, cells_of, columns_with, count_of, lines_in, rows_with}
 use Rattle.moves.specs.Stores.{items}
 use Rattle.model.specs.Sheet.{listed, remove_listed, Table, changed}
 use Rattle.model.specs.Journal.{Answer, Right, change, done, first_no, refused, has_column, lines_of, runs_from, lost_of}
@@ -24,7 +24,7 @@ use Rattle.journal.specs.Asking.{rooms_with}
 use Rattle.journal.proofs.Asking.{asked_with}
 use Rattle.journal.proofs.Answering.{accepted, entered, right, same_room}
 use Rattle.listed.specs.Runs.{Rising}
-use Rattle.listed.specs.Cuts.{between, cut, lines_of_side, spared, taken_of}
+use Rattle.listed.specs.Cuts.{between, cut, lying, spared, taken_of}
 use Rattle.listed.proofs.Walks.{lines_summed, runs_rising}
 use Rattle.listings.specs.Cut.{Cut, Own}
 use Rattle.listings.proofs.Questions.{columnless, stopped_early}
@@ -74,36 +74,36 @@ module _ (ks : List ℕ) (m : ℕ) (own : List Run) (e : map run_of own ≡ runs
   pub own_rises : Rising 0 (map run_of own) m
   own_rises = subst (λ zs. Rising 0 zs m) (sym e) (subst (λ k. Rising 0 (runs_from (listed ks) 0 m) k) (let f : 0 + m ≡ m = omega arith in f) (runs_rising (listed ks) m 0))
 
-module _ {A : Type 0} (p : Parts A) (s : Side) (ks : List ℕ) (own : List Run) (e : map run_of own ≡ runs_from (listed ks) 0 (lines_in s p.table.rows p.table.columns)) where
-  own_lost : cut (lines_of_side s p.table.rows p.table.columns) p.table.cells.now own ≡ lost_of (table_of p) (remove_listed (side_of s) ks)
+module _ {A : Type 0} (p : Parts A) (s : Side) (ks : List ℕ) (own : List Run) (e : map run_of own ≡ runs_from (listed ks) 0 (count_of p.table s)) where
+  own_lost : cut (lying s p.table) p.table.cells.now own ≡ lost_of (table_of p) (remove_listed (side_of s) ks)
   own_lost =
-      let w = lines_of_side s p.table.rows p.table.columns in
+      let w = lying s p.table in
       ap (taken_of w.width (w.count * w.width) 0 w.groups p.table.cells.now) e ∙ cells_lost (table_of p) p.table.cells.now refl ks s
 
-  own_left : spared (lines_of_side s p.table.rows p.table.columns) p.table.cells.now own ≡ (changed (table_of p) (remove_listed (side_of s) ks)).cells
+  own_left : spared (lying s p.table) p.table.cells.now own ≡ (changed (table_of p) (remove_listed (side_of s) ks)).cells
   own_left =
-      let w = lines_of_side s p.table.rows p.table.columns in
+      let w = lying s p.table in
       ap (λ zs. taken_of w.width (w.count * w.width) 0 w.groups p.table.cells.now (between 0 zs w.count)) e ∙ cells_left (table_of p) p.table.cells.now refl ks s
 
-  module _ (gone : ℕ) (f : gone ≡ goes ks (lines_in s p.table.rows p.table.columns)) where
+  module _ (gone : ℕ) (f : gone ≡ goes ks (count_of p.table s)) where
     pub own_runs : Own p s own gone
     own_runs = record {
-      rising = own_rises ks (lines_in s p.table.rows p.table.columns) own e;
-      there = omega (arith, goes_few ks (lines_in s p.table.rows p.table.columns));
+      rising = own_rises ks (count_of p.table s) own e;
+      there = omega (arith, goes_few ks (count_of p.table s));
       counted = sym (ap length own_lost ∙ (numbers (table_of p) ks s gone (right p) f).lost);
     }
 
     -- lines taken out
     performed_cut : (q : Parts A) → Cut p q s own gone
-        → Performed p q (remove_listed (side_of s) ks) (rows_with s (lines_in s p.table.rows p.table.columns - gone) p.table.rows) (columns_with s (lines_in s p.table.rows p.table.columns - gone) p.table.columns)
-        (runs_from (listed ks) 0 (lines_in s p.table.rows p.table.columns)) (cells_in s gone p.table.rows p.table.columns)
+        → Performed p q (remove_listed (side_of s) ks) (rows_with s (count_of p.table s - gone) p.table.rows) (columns_with s (count_of p.table s - gone) p.table.columns)
+        (runs_from (listed ks) 0 (count_of p.table s)) (cells_of p.table s gone)
     performed_cut q c =
         let ch = remove_listed (side_of s) ks in
         let k = numbers (table_of p) ks s gone (right p) f in
-        let m = rows_with s (lines_in s p.table.rows p.table.columns - gone) p.table.rows in
-        let n = columns_with s (lines_in s p.table.rows p.table.columns - gone) p.table.columns in
+        let m = rows_with s (count_of p.table s - gone) p.table.rows in
+        let n = columns_with s (count_of p.table s - gone) p.table.columns in
         let long : length (changed (table_of p) ch).cells ≡ m * n = right_changed (table_of p) ch (right p) k.named ∙ ap₂ ◌*◌ k.rows k.columns in
-        let whole : m * n ≡ 0 + length (spared (lines_of_side s p.table.rows p.table.columns) p.table.cells.now own) = (let z = ap length own_left in omega arith) in
+        let whole : m * n ≡ 0 + length (spared (lying s p.table) p.table.cells.now own) = (let z = ap length own_left in omega arith) in
         record {
           note = ListedRemoval s;
           noted = refl;
@@ -112,15 +112,15 @@ module _ {A : Type 0} (p : Parts A) (s : Side) (ks : List ℕ) (own : List Run) 
           cells = ap (λ k. take k q.table.cells.now) whole ∙ c.cells.put ∙ own_left;
           saved = c.saved.more ∙ ap (λ zs. saved_of p ++ zs) own_lost;
           runs = ap (map run_of) c.runs.more ∙ map-append run_of (items p.runs) own ∙ ap (λ zs. runs_of p ++ zs) e;
-          entries = entered p _ _ _ (ap (λ k. entry_for p (ListedRemoval s) k (cells_in s gone p.table.rows p.table.columns)) (own_many ks (lines_in s p.table.rows p.table.columns) own e)) c.entries;
+          entries = entered p _ _ _ (ap (λ k. entry_for p (ListedRemoval s) k (cells_of p.table s gone)) (own_many ks (count_of p.table s) own e)) c.entries;
           room = same_room _ _ _ _ _ _ _ _ c.cells.long c.entries.kept.room c.runs.kept.room c.saved.kept.room;
         }
 
     -- the answers, from the questions asked of numbers that come to the same
-    module _ (k l : ℕ) (ek : k ≡ lines_in s p.table.rows p.table.columns - gone) (el : l ≡ cells_in s gone p.table.rows p.table.columns) (h : Held p) where
+    module _ (k l : ℕ) (ek : k ≡ count_of p.table s - gone) (el : l ≡ cells_of p.table s gone) (h : Held p) where
       asked : (a : Answer) → a ≡ first_no (rooms_with p s k (length own) l)
-          → a ≡ first_no (rooms_with p s (lines_in s p.table.rows p.table.columns - gone) (length (runs_from (listed ks) 0 (lines_in s p.table.rows p.table.columns))) (cells_in s gone p.table.rows p.table.columns))
-      asked a = asked_with p s a k (length own) l _ _ _ ek (own_many ks (lines_in s p.table.rows p.table.columns) own e) el
+          → a ≡ first_no (rooms_with p s (count_of p.table s - gone) (length (runs_from (listed ks) 0 (count_of p.table s))) (cells_of p.table s gone))
+      asked a = asked_with p s a k (length own) l _ _ _ ek (own_many ks (count_of p.table s) own e) el
 
       pub stopped : (x : Refusal) → refused (number_of x) ≡ first_no (rooms_with p s k (length own) l) → Answers p p (change (remove_listed (side_of s) ks)) (Err x)
       stopped x w = stopped_early p (remove_listed (side_of s) ks) _ _ _ _ (numbers (table_of p) ks s gone (right p) f) h x (asked (refused (number_of x)) w)
