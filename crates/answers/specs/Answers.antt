@@ -1,5 +1,6 @@
 -- The bytes that are written of answers and rows.
-use Rattle.std.specs.Prelude.{ℕ, cond, ◌&&◌, List, [], ◌∷◌, ◌++◌, Ok, Err, Result, codes, decimal, nat_le}
+use Rattle.std.specs.Prelude.{ℕ, ◌+◌, ◌*◌, cond, ◌&&◌, List, map, slice_index, [], ◌∷◌, ◌++◌, Ok, Err, Result, codes, decimal, nat_le}
+use Rattle.std.specs.List.{range_with_len}
 use Rattle.layout.specs.declared.refusal.Refusal.{Refusal}
 use Rattle.layout.specs.Refusals.{number_of}
 use Rattle.answers.specs.declared.answer.Done.{Done}
@@ -24,6 +25,10 @@ spaced (x ∷ xs) = field x ++ spaced xs
 abbrev pub row_text : List ℕ → List ℕ
 row_text [] = 10 ∷ []
 row_text (x ∷ xs) = decimal x ++ (spaced xs ++ 10 ∷ [])
+
+-- the cells of a row of a table that lies column by column; 0 beyond the list
+abbrev pub row_cells : (cells : List ℕ) (rows columns row : ℕ) → List ℕ
+row_cells cells rows columns row = map (λ c. slice_index cells (row + c * rows)) (range_with_len 0 columns)
 
 -- what is said of a shape, and of the no to question k at a line and a word
 abbrev pub shape_words : ℕ → ℕ → List ℕ

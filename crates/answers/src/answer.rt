@@ -1,8 +1,7 @@
 // Writes answers and rows as bytes.
-ghost use Rattle.std.specs.Prelude.{◌≡◌, ◌+◌, ◌*◌, ◌++◌, Some, map, OnOk, slice_index};
-ghost use Rattle.std.specs.List.{range_with_len};
+ghost use Rattle.std.specs.Prelude.{◌≡◌, ◌+◌, ◌*◌, ◌++◌, Some, OnOk, slice_index};
 ghost use Rattle.layout.specs.Refusals.{number_of};
-ghost use Rattle.answers.specs.Answers.{letter_of, row_text, shape_words, no_words, answer_text};
+ghost use Rattle.answers.specs.Answers.{letter_of, row_cells, row_text, shape_words, no_words, answer_text};
 
 use layout::refusal::Refusal;
 use std::alloc::AllocError;
@@ -27,7 +26,7 @@ pub struct Refused {
 // What is said of a command.
 pub type Answer = Result<Done, Refused>;
 
-// Who refuses: t, the text of the script, j, the journal, or s, the sheet.
+// Who refuses: t, the text of the script, j, the journal, or s, the sheet. A byte of the answer's text.
 pub fn letter(refusal: Refusal) -> u8
     ensures { result ≡ letter_of refusal }
 {
@@ -78,9 +77,9 @@ fn cell(cells: &[u32], rows: u32, row: u32, column: u32) -> u32
     cells.get(place).copied().unwrap_or(0)
 }
 
-// What `put_row` appends, with the error that a writer has.
+// What `put_row` appends, with the error that a writer has: each `?` hands that on.
 fn write_row(out: &mut Vec<u8>, cells: &[u32], rows: u32, columns: u32, row: u32) -> io::Result<()>
-    ensures { OnOk result (out.new.items ≡ out.old.items ++ row_text (map (λ c. slice_index cells.now (row + c * rows)) (range_with_len 0 columns))) }
+    ensures { OnOk result (out.new.items ≡ out.old.items ++ row_text (row_cells cells.now rows columns row)) }
 {
     if columns > 0 {
         write!(out, "{}", cell(cells, rows, row, 0))?;
@@ -101,7 +100,7 @@ pub fn put_row(
     columns: u32,
     row: u32,
 ) -> Result<(), AllocError>
-    ensures { OnOk result (out.new.items ≡ out.old.items ++ row_text (map (λ c. slice_index cells.now (row + c * rows)) (range_with_len 0 columns))) }
+    ensures { OnOk result (out.new.items ≡ out.old.items ++ row_text (row_cells cells.now rows columns row)) }
 {
     write_row(out, cells, rows, columns, row).map_err(|_| AllocError)
 }

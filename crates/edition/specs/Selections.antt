@@ -1,8 +1,9 @@
 -- Lines of a table selected by a list.
-use Rattle.std.specs.Prelude.{ℕ, ◌+◌, ◌*◌, ◌<◌, ◌≤◌, List, [], ◌∷◌, length, slice_index}
+use Rattle.std.specs.Prelude.{ℕ, ◌+◌, ◌*◌, ◌<◌, List, ◌∷◌, length, slice_index}
 use Rattle.layout.specs.declared.refusal.Refusal.{Refusal}
-use Rattle.layout.specs.Checks.{Rule, ◌else◌, few_lines, reaches}
-use Rattle.layout.specs.Lawful.{Grid, Distinct}
+use Rattle.layout.specs.Cells.{clone_rules}
+use Rattle.layout.specs.Checks.{Rule, ◌else◌, few_lines}
+use Rattle.layout.specs.Lawful.{Grid, Distinct, selected_rows}
 use Rattle.layout.specs.Picked.{Below}
 use Rattle.layout.specs.Written.{Written, cell_of}
 use Rattle.edition.specs.declared.Lines.{Lines}
@@ -12,9 +13,7 @@ abbrev pub select_rules : Grid → List ℕ → (source target : ℕ) → List R
 select_rules grid list source target =
     (Below list grid.rows else Refusal.NoSuchLine)
     ∷ few_lines (length list) grid.columns
-    ∷ ((length list * grid.columns ≤ target) else Refusal.TooManyCells)
-    ∷ reaches grid source
-    ∷ []
+    ∷ clone_rules (selected_rows grid list) source target
 
 -- the listed columns of a table, in the list's order
 abbrev pub selected_columns : Grid → List ℕ → Grid

@@ -19,7 +19,7 @@ abbrev pub RowsSwapped : {T : Type 0} → Grid → (was is : List T) → (i j : 
 RowsSwapped grid was is i j =
     Written grid was is (λ r c. (r ≡ i) ⊎ (r ≡ j)) (λ r c d. cell_of grid was (other i j r) c d)
 
--- the cells of columns i and j hold what the other column held
+-- the same of columns, in words of its own: a reader need not turn the table in mind. The cells of columns i and j hold what the other column held
 abbrev pub ColumnsSwapped : {T : Type 0} → Grid → (was is : List T) → (i j : ℕ) → Type 0
 ColumnsSwapped grid was is i j =
     Written grid was is (λ r c. (c ≡ i) ⊎ (c ≡ j)) (λ r c d. cell_of grid was r (other i j c) d)

@@ -17,7 +17,8 @@ square_rules grid buffer = reaches grid buffer ∷ ((grid.rows ≡ grid.columns)
 abbrev pub LowerFilled : {T : Type 0} → Grid → (was is : List T) → T → (s : ℕ) → Type 0
 LowerFilled grid was is v s = Written grid was is (λ r c. c + s ≤ r) (λ r c d. v)
 
--- the cells at least s columns right of the diagonal hold v
+-- the same on the other side, here and below in words of its own: the cells at least s columns right of the diagonal
+-- hold v
 abbrev pub UpperFilled : {T : Type 0} → Grid → (was is : List T) → T → (s : ℕ) → Type 0
 UpperFilled grid was is v s = Written grid was is (λ r c. r + s ≤ c) (λ r c d. v)
 

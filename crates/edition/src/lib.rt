@@ -3,7 +3,7 @@
 
 ghost use Rattle.std.specs.Prelude.{◌≡◌, ◌+◌, ◌*◌, ◌<◌, ◌≤◌, length, MatchResult};
 ghost use Rattle.layout.specs.Cells.{Cloned};
-ghost use Rattle.layout.specs.Checks.{Checked, Passes};
+ghost use Rattle.layout.specs.Checks.{Checked, Passes, Reaches};
 ghost use Rattle.layout.specs.Lawful.{selected_rows};
 ghost use Rattle.layout.specs.Written.{Written, cell_of};
 ghost use Rattle.edition.specs.Selections.{Packed, Selected, select_rules, selected_columns, spread};
@@ -75,7 +75,7 @@ pub fn swap_columns<L: Layout, T: Copy>(
 
 // Fills one column from a row on.
 fn fill_column_from<L: Layout, T: Copy>(layout: &L, buffer: &mut [T], v: T, row: u32, column: u32)
-    requires { (column < (L.grid layout.now).columns) × ((L.grid layout.now).span ≤ length buffer.old) }
+    requires { (column < (L.grid layout.now).columns) × Reaches (L.grid layout.now) (length buffer.old) }
     ensures { Written (L.grid layout.now) buffer.old buffer.new (λ r c. (c ≡ column) × (row ≤ r)) (λ r c d. v) }
 {
     let (rows, _) = layout.shape();
@@ -120,7 +120,7 @@ pub fn fill_upper_triangle<L: Layout, T: Copy>(
 // The cells of one column below the diagonal take what stands across it.
 fn copy_across<L: Layout, T: Copy>(layout: &L, buffer: &mut [T], column: u32)
     requires shape { (column < (L.grid layout.now).columns) × ((L.grid layout.now).rows ≡ (L.grid layout.now).columns) }
-    requires fits { (L.grid layout.now).span ≤ length buffer.old }
+    requires fits { Reaches (L.grid layout.now) (length buffer.old) }
     ensures { Written (L.grid layout.now) buffer.old buffer.new (λ r c. (c ≡ column) × (column + 1 ≤ r)) (λ r c d. cell_of (L.grid layout.now) buffer.old c r d) }
 {
     let (rows, _) = layout.shape();
@@ -179,7 +179,7 @@ fn copy_line<L: Layout, T: Copy>(
     to: Lines,
     k: usize,
 )
-    requires there { (line < (L.grid layout.now).rows) × ((L.grid layout.now).span ≤ length source.now) × (k < to.count) }
+    requires there { (line < (L.grid layout.now).rows) × Reaches (L.grid layout.now) (length source.now) × (k < to.count) }
     requires packed { Packed (spread to (L.grid layout.now).columns) }
     requires room { to.count * (L.grid layout.now).columns ≤ length target.old }
     ensures { Written (spread to (L.grid layout.now).columns) target.old target.new (λ i c. i ≡ k) (λ i c d. cell_of (L.grid layout.now) source.now line c d) }

@@ -17,7 +17,8 @@ fn take_block<T: Copy>(cells: &mut [T], from: usize, len: usize, list: &[T], v: 
     fill_range(cells, from + count, len - count, v);
 }
 
-// Writes the list, and v behind it, into the rows, column by column.
+// Writes the list, and v behind it, into the rows, column by column. A loop of its own beside `put_rows` and `fill_rows`
+// of `moves`: each turn writes in its own way.
 pub(crate) fn take_rows<T: Copy>(cells: &mut [T], b: Block, list: &[T], v: T)
     requires { Inside b (length cells.old) }
     ensures { RowsTaken cells.old cells.new b list.now v }

@@ -1,4 +1,4 @@
-ghost use Rattle.std.specs.Prelude.{◌≡◌, ◌+◌, ◌≤◌, ◌++◌, map, length};
+ghost use Rattle.std.specs.Prelude.{◌≡◌, ◌+◌, ◌++◌, map, length};
 ghost use Rattle.moves.specs.Stores.{HasRoom, Kept, items};
 ghost use Rattle.journal.specs.View.{run_of};
 ghost use Rattle.model.specs.Journal.{one_run};

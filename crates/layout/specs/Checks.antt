@@ -31,8 +31,11 @@ abbrev pub few_lines : (rows columns : ℕ) → Rule
 few_lines rows columns = ((rows ≤ 4096) × (columns ≤ 4096)) else Refusal.TooManyLines
 
 -- a buffer of so many places reaches the grid's span
+abbrev pub Reaches : Grid → ℕ → Type 0
+Reaches grid places = grid.span ≤ places
+
 abbrev pub reaches : Grid → ℕ → Rule
-reaches grid places = (grid.span ≤ places) else Refusal.BufferTooShort
+reaches grid places = Reaches grid places else Refusal.BufferTooShort
 
 abbrev pub dense_rules : (rows columns : ℕ) → List Rule
 dense_rules rows columns =

@@ -1,7 +1,7 @@
 // A layout: a shape, a span, and a place below the span for each cell of the shape.
 ghost use Rattle.std.specs.Prelude.{◌≡◌, ◌+◌, ◌*◌, ◌<◌, ◌≤◌, [], ◌∷◌, length, MatchResult};
 ghost use Rattle.layout.specs.Cells.{Cloned, ColumnCloned, clone_rules};
-ghost use Rattle.layout.specs.Checks.{Checked, Passes, few_lines, reaches};
+ghost use Rattle.layout.specs.Checks.{Checked, Passes, Reaches, few_lines, reaches};
 ghost use Rattle.layout.specs.Lawful.{Grid, Lawful};
 ghost use Rattle.layout.specs.Written.{Written, cell_of};
 
@@ -64,7 +64,7 @@ pub fn ask_clone<L: Layout>(layout: &L, source: usize, cells: usize) -> Result<(
 // acts through a layout: each method of a struct of the two would owe that it keeps both.
 pub fn read<L: Layout, T: Copy>(layout: &L, buffer: &[T], row: u32, column: u32) -> T
     requires inside { (row < (L.grid layout.now).rows) × (column < (L.grid layout.now).columns) }
-    requires fits { (L.grid layout.now).span ≤ length buffer.now }
+    requires fits { Reaches (L.grid layout.now) (length buffer.now) }
     ensures { (d : T) → cell_of (L.grid layout.now) buffer.now row column d ≡ result }
 {
     buffer[layout.place(row, column) as usize]
@@ -73,7 +73,7 @@ pub fn read<L: Layout, T: Copy>(layout: &L, buffer: &[T], row: u32, column: u32)
 // Writes that cell.
 pub fn write<L: Layout, T: Copy>(layout: &L, buffer: &mut [T], row: u32, column: u32, v: T)
     requires inside { (row < (L.grid layout.now).rows) × (column < (L.grid layout.now).columns) }
-    requires fits { (L.grid layout.now).span ≤ length buffer.old }
+    requires fits { Reaches (L.grid layout.now) (length buffer.old) }
     ensures { Written (L.grid layout.now) buffer.old buffer.new (λ r c. (r ≡ row) × (c ≡ column)) (λ r c d. v) }
 {
     let place = layout.place(row, column) as usize;
@@ -90,7 +90,7 @@ fn clone_column<L: Layout, T: Copy>(
     column: u32,
 )
     requires shape { (rows ≡ (L.grid layout.now).rows) × (column < (L.grid layout.now).columns) }
-    requires fits { ((L.grid layout.now).span ≤ length source.now) × (column * rows + rows ≤ length cells.old) }
+    requires fits { Reaches (L.grid layout.now) (length source.now) × (column * rows + rows ≤ length cells.old) }
     ensures { ColumnCloned (L.grid layout.now) source.now cells.old cells.new column rows }
 {
     let first = column as usize * rows as usize;

@@ -74,6 +74,13 @@ module _ (ks : List ℕ) (m : ℕ) (own : List Run) (e : map run_of own ≡ runs
   pub own_rises : Rising 0 (map run_of own) m
   own_rises = subst (λ zs. Rising 0 zs m) (sym e) (subst (λ k. Rising 0 (runs_from (listed ks) 0 m) k) (let f : 0 + m ≡ m = omega arith in f) (runs_rising (listed ks) m 0))
 
+-- what is handed on is what was found
+pub found_lines : (ks : List ℕ) (m gone : ℕ) (own is : List Run) → own ≡ is → map run_of is ≡ runs_from (listed ks) 0 m → gone ≡ sum_by (λ (r : Run). r.length) is
+    → (map run_of own ≡ runs_from (listed ks) 0 m) × (gone ≡ goes ks m)
+found_lines ks m gone own is same found counted =
+    let e = ap (map run_of) same ∙ found in
+    (e, counted ∙ ap (sum_by (λ (r : Run). r.length)) (sym same) ∙ own_goes ks m own e)
+
 module _ {A : Type 0} (p : Parts A) (s : Side) (ks : List ℕ) (own : List Run) (e : map run_of own ≡ runs_from (listed ks) 0 (count_of p.table s)) where
   own_lost : cut (lying s p.table) p.table.cells.now own ≡ lost_of (table_of p) (remove_listed (side_of s) ks)
   own_lost =

@@ -1,5 +1,5 @@
 -- Provenance (at the mill: the line book): where each row and each column comes from, told from the opened shape and the
--- remaining changes.
+-- remaining changes. In words of its own, some of which repeat those of Sheet: a reader is to believe them alone.
 use Rattle.std.specs.Prelude.{◌≡◌, ℕ, suc, ◌+◌, ◌-◌, ◌*◌, ◌<◌, ◌≤◌, max, Bool, ◌&&◌, List, [], ◌∷◌, ◌++◌, map, length, ◌==◌, slice_index_or}
 use Rattle.std.specs.List.{range_with_len}
 use Rattle.model.specs.Sheet.{Origin, old, new, Edit, insert, remove, remove_at, swap, resize, origins, Side, row, column, Change, insert_lines, remove_lines, remove_listed, swap_lines, fill_lines, resize_to, edit, Table, cell_at}

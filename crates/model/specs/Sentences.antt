@@ -1,4 +1,5 @@
--- Each change in a sentence of its own, for either side: a line is a row or a column.
+-- Each change in a sentence of its own, for either side: a line is a row or a column. Some of its words repeat those of proofs,
+-- since a reader is to believe them alone.
 use Rattle.std.specs.Prelude.{◌≡◌, ℕ, ◌+◌, ◌-◌, ◌*◌, ◌<◌, ◌≤◌, cond, not, ◌&&◌, ◌≢◌, List, [], ◌∷◌, length, filter, nat_lt, slice_index, slice_index_or}
 use Rattle.std.specs.List.{range_with_len, flat_map}
 use Rattle.model.specs.Sheet.{listed, Side, row, column, Change, insert_lines, remove_lines, remove_listed, swap_lines, fill_lines, resize_to, Table, cell_at, pairs, changed}

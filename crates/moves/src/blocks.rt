@@ -61,7 +61,8 @@ pub fn fill_range<T: Copy>(cells: &mut [T], from: usize, len: usize, v: T)
     }
 }
 
-// Copies `len` cells of one buffer into another.
+// Copies `len` cells of one buffer into another. By places, here and above, as `slide` whose two ranges may overlap: so
+// what is said of the whole buffer is said once.
 pub fn copy_block<T: Copy>(src: &[T], from: usize, cells: &mut [T], to: usize, len: usize)
     requires { (from + len ≤ length src.now) × (to + len ≤ length cells.old) }
     ensures { Copied src.now cells.old cells.new from to len }

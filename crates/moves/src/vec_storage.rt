@@ -3,8 +3,9 @@ ghost use Rattle.std.specs.Prelude.{◌*◌, ◌≤◌, length};
 mod methods;
 
 // A table at the start of a handed-in buffer, column by column: the cell of row r and column c is at r + c * rows.
-// A dense layout of its shape is lawful. Rows and columns are two fields and no struct, here and in the calls above: they
-// come one by one, as in the source (`resize_mut`), and whoever takes them uses the one or the other.
+// A dense layout of its shape is lawful. Rows and columns are two numbers and no struct, here and in the calls above: as
+// in the source they come one by one (`resize_mut`), as u32 from a call and as usize of a change under way, and a struct
+// of them would be taken apart wherever one is compared.
 #[derive(Drop)]
 pub struct Table<'a, T> {
     pub cells: &'a mut [T],

@@ -1,5 +1,5 @@
 // A table given m rows and n columns: what it loses is saved, and then the rest moves to its new places.
-ghost use Rattle.std.specs.Prelude.{◌≡◌, ◌+◌, ◌*◌, ◌≤◌, min, length};
+ghost use Rattle.std.specs.Prelude.{◌≡◌, ◌*◌, ◌≤◌, min, length};
 ghost use Rattle.moves.specs.Stores.{HasRoom, Kept, items};
 ghost use Rattle.moves.specs.Blocks.{count_of_lost};
 ghost use Rattle.resizing.specs.Resizing.{OutsideSaved, Resized, RowsResized};

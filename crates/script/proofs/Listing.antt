@@ -2,7 +2,6 @@
 use Rattle.std.proofs.Common.{◌≡◌, ℕ, suc, ◌+◌, ◌-◌, ◌<◌, ◌≤◌, true, false, cond, eqb, Bor, List, [], ◌∷◌, ◌++◌, length, take, drop, set, replicate, Some, None, Ok, Err, Option, Result, sym, refl, subst, ap, ◌∙◌, append_assoc, arith}
 use Rattle.std.specs.Iterator.{Yields}
 use Rattle.std.specs.List.{onto_first, enumerate_from}
-use Rattle.std.specs.Option.{option_map}
 use Rattle.std.proofs.lemmas.Iterator.{YieldsList}
 use Rattle.std.proofs.lemmas.Iterator.Consumers.{YieldsList-turn, YieldsList-end}
 use Rattle.std.proofs.lemmas.List.FromFn.{length-enumerate_from, get_or-enumerate_from}
@@ -11,7 +10,7 @@ use Rattle.layout.specs.declared.refusal.Refusal.TheVariants.{BadNumber}
 use Rattle.script.specs.declared.command.Numbers.{Numbers}
 use Rattle.script.specs.declared.command.Fault.{Fault}
 use Rattle.script.specs.Numerals.{numeral}
-use Rattle.script.specs.Words.{front, behind, parts, parts_of, further}
+use Rattle.script.specs.Words.{front, behind, parts, parts_of, words_of}
 use Rattle.script.specs.Commands.{read_on, fault}
 
 -- the parts of a text are what stands before the first c and the parts behind it
@@ -83,10 +82,10 @@ read_all all at count e l =
 
 -- a loop over the words of o, each with its place, has yielded xs, and next yields r
 module _ {o : Option (Bor (List ℕ))} {text : Bor (List ℕ)} (is : o ≡ Some text) {S : Type 0} {steps : S → Option (ℕ × Bor (List ℕ)) → S → Type 0} {s t u : S} {r : Option (ℕ × Bor (List ℕ))} (words : YieldsList steps (λ p. (p.0, p.1.now)) s (enumerate_from 0 (parts 32 text.now))) (xs : List (ℕ × Bor (List ℕ))) (so_far : Yields steps s xs t) (step : steps t r u) where
-  same_words : further (option_map (λ x. x.now) o) ≡ parts 32 text.now
-  same_words = ap (λ q. further (option_map (λ x. x.now) q)) is
+  same_words : words_of o ≡ parts 32 text.now
+  same_words = ap (λ q. words_of q) is
 
-  pub next_word : {k : ℕ} {x : Bor (List ℕ)} → r ≡ Some (k, x) → Next (further (option_map (λ x. x.now) o)) x.now k (length xs)
+  pub next_word : {k : ℕ} {x : Bor (List ℕ)} → r ≡ Some (k, x) → Next (words_of o) x.now k (length xs)
   next_word {k} {x} some =
       let turn = YieldsList-turn words xs t so_far r u (k, x) some step in
       let room : length xs < length (parts 32 text.now) = omega (arith, turn.0, length-enumerate_from 0 (parts 32 text.now)) in
@@ -97,5 +96,5 @@ module _ {o : Option (Bor (List ℕ))} {text : Bor (List ℕ)} (is : o ≡ Some 
         word = drop_more (parts 32 text.now) (length xs) x.now room ∙ ap (λ w. w ∷ drop (length xs + 1) (parts 32 text.now)) (sym (ap (λ p. p.1) at));
       }
 
-  pub no_word : r ≡ None → length xs ≡ length (further (option_map (λ x. x.now) o))
+  pub no_word : r ≡ None → length xs ≡ length (words_of o)
   no_word none = (YieldsList-end words xs t so_far r u none step).1 ∙ length-enumerate_from 0 (parts 32 text.now) ∙ ap length (sym same_words)

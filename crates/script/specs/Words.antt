@@ -1,6 +1,8 @@
 -- A text cut at a byte.
 use Rattle.std.specs.Prelude.{ℕ, cond, List, [], ◌∷◌, Some, None, Option, ◌==◌}
+use Rattle.std.specs.Borrow.{Bor}
 use Rattle.std.specs.List.{slice_split}
+use Rattle.std.specs.Option.{option_map}
 
 -- what stands before the first c
 abbrev pub front : ℕ → List ℕ → List ℕ
@@ -24,6 +26,10 @@ parts_of c (Some bs) = parts c bs
 -- the words of what stands behind a blank
 abbrev pub further : Option (List ℕ) → List (List ℕ)
 further o = parts_of 32 o
+
+-- the words that a borrowed text has, if there is one
+abbrev pub words_of : Option (Bor (List ℕ)) → List (List ℕ)
+words_of o = further (option_map (λ x. x.now) o)
 
 -- all but an empty last one
 abbrev pub full : List (List ℕ) → List (List ℕ)

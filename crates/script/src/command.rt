@@ -3,12 +3,11 @@
 // The first word names the command: i, r, a or s before the side r (rows) or c (columns), or n, z, u, k or p alone.
 // The numbers follow; a value that is left out is 0.
 ghost use Rattle.std.specs.Prelude.{◌≡◌, ◌≤◌, min, [], length, take};
-ghost use Rattle.std.specs.Option.{option_map};
 ghost use Rattle.std.specs.Result.{result_ok};
 ghost use Rattle.layout.specs.declared.refusal.Refusal.TheVariants.{NoCommand};
 ghost use Rattle.script.specs.Commands.{fault, fewest, most, takes, lives, read_on, command_for, command_read, decided};
 ghost use Rattle.script.specs.Verbs.{verb_named, side_of};
-ghost use Rattle.script.specs.Words.{further};
+ghost use Rattle.script.specs.Words.{words_of};
 
 use crate::token::{Token, first_token};
 use layout::refusal::Refusal;
@@ -174,7 +173,7 @@ fn takes(verb: Verb, count: usize) -> bool
 
 // How many words there are: one more than blanks.
 fn count_words(words: Option<&[u8]>) -> usize
-    ensures { result ≡ length (further (option_map (λ x. x.now) words.entry)) }
+    ensures { result ≡ length (words_of words.entry) }
 {
     let Some(text) = words else {
         return 0;
@@ -184,8 +183,8 @@ fn count_words(words: Option<&[u8]>) -> usize
 
 // The numbers that the words write. The first bad word is refused by its place in the line, where the command is word 1.
 fn numbers_of(words: Option<&[u8]>) -> Result<Numbers, Fault>
-    requires { length (further (option_map (λ x. x.now) words)) ≤ 16 }
-    ensures { result ≡ read_on [] (further (option_map (λ x. x.now) words.entry)) }
+    requires { length (words_of words) ≤ 16 }
+    ensures { result ≡ read_on [] (words_of words.entry) }
 {
     let mut at = [0; 16];
     if let Some(text) = words {
@@ -243,7 +242,7 @@ fn command_of(verb: Verb, n: &Numbers) -> Command
 
 // The command of a verb and the words behind it. Their count is asked for before any of them is read.
 pub fn read_command(verb: Verb, words: Option<&[u8]>) -> Result<Command, Fault>
-    ensures { result ≡ command_read verb (further (option_map (λ x. x.now) words.entry)) }
+    ensures { result ≡ command_read verb (words_of words.entry) }
 {
     if !takes(verb, count_words(words)) {
         return Err(Fault {

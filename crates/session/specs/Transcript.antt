@@ -1,5 +1,5 @@
 -- What the lines of a script do to a sheet of weights, and what is written of each.
-use Rattle.std.specs.Prelude.{ℕ, ◌+◌, ◌*◌, Bool, true, false, cond, not, ◌&&◌, List, [], ◌∷◌, ◌++◌, map, length, replicate, Ok, Err, Result, nat_le, slice_index}
+use Rattle.std.specs.Prelude.{ℕ, ◌+◌, ◌*◌, Bool, true, false, cond, not, ◌&&◌, List, [], ◌∷◌, ◌++◌, length, replicate, Ok, Err, Result, nat_le}
 use Rattle.std.specs.List.{range_with_len, flat_map}
 use Rattle.layout.specs.Refusals.{number_of}
 use Rattle.journal.specs.View.{side_of}
@@ -10,7 +10,7 @@ use Rattle.script.specs.declared.command.Command.TheVariants.{Insert, Remove, Re
 use Rattle.script.specs.declared.command.Fault.{Fault}
 use Rattle.script.specs.Commands.{decided}
 use Rattle.answers.specs.declared.answer.Refused.{Refused}
-use Rattle.answers.specs.Answers.{done_text, no_text, refused_text, row_text}
+use Rattle.answers.specs.Answers.{done_text, no_text, refused_text, row_cells, row_text}
 
 -- a sheet, and whether the script has opened it
 pub record State : Type 0 where
@@ -25,7 +25,8 @@ unopened s = record { is_open = false; sheet = s }
 abbrev pub plain : ℕ → ℕ → ℕ → Table ℕ
 plain rows columns v = record { rows = rows; columns = columns; cells = replicate (rows * columns) v }
 
--- what n asks: the questions of its dense table, then those of opening it over buffers with this room
+-- what n asks: the questions of its dense table, then those of opening it over buffers with this room; said as tests,
+-- since a transcript is reckoned out
 abbrev pub new_tests : Room → ℕ → ℕ → List (ℕ × Bool)
 new_tests r rows columns =
     (3, nat_le rows 4096 && nat_le columns 4096)
@@ -55,23 +56,16 @@ carried s Print = (s, done)
 carried s Remark = (s, done)
 
 abbrev pub needs_a_sheet : Command → Bool
-needs_a_sheet (Insert side i n v) = true
-needs_a_sheet (Remove side i n) = true
-needs_a_sheet (RemoveAt side ns) = true
-needs_a_sheet (Swap side i j) = true
 needs_a_sheet (New rows columns v) = false
-needs_a_sheet (Resize rows columns v) = true
-needs_a_sheet Undo = true
-needs_a_sheet Settle = true
-needs_a_sheet Print = true
 needs_a_sheet Remark = false
+needs_a_sheet c = true
 
 -- question 16 comes before what the sheet asks
 abbrev pub performed : State → Command → State × Answer
 performed s c = cond (needs_a_sheet c && not s.is_open) (s, refused 16) (carried s c)
 
 abbrev pub row_of : Table ℕ → ℕ → List ℕ
-row_of t r = map (λ c. slice_index t.cells (r + c * t.rows)) (range_with_len 0 t.columns)
+row_of t r = row_cells t.cells t.rows t.columns r
 
 -- the rows of a table, a line each
 abbrev pub printed : Table ℕ → List ℕ
@@ -79,16 +73,9 @@ printed t = flat_map (λ r. row_text (row_of t r)) (range_with_len 0 t.rows)
 
 -- what an accepted command writes
 abbrev pub outcome : Command → Table ℕ → List ℕ
-outcome (Insert side i n v) t = done_text t.rows t.columns
-outcome (Remove side i n) t = done_text t.rows t.columns
-outcome (RemoveAt side ns) t = done_text t.rows t.columns
-outcome (Swap side i j) t = done_text t.rows t.columns
-outcome (New rows columns v) t = done_text t.rows t.columns
-outcome (Resize rows columns v) t = done_text t.rows t.columns
-outcome Undo t = done_text t.rows t.columns
-outcome Settle t = done_text t.rows t.columns
 outcome Print t = printed t
 outcome Remark t = []
+outcome c t = done_text t.rows t.columns
 
 abbrev pub told : ℕ → Command → Table ℕ → Answer → List ℕ
 told number c t done = outcome c t

@@ -56,23 +56,20 @@ impl<'s, 'a> Session<'s, 'a> {
     }
 
     fn insert(&mut self, side: Side, at: u32, count: u32, value: Weight) -> Result<(), Refusal>
-        ensures which { answered result ≡ (changing (state_of self.old) (insert_lines (side_of side) at count value)).1 }
-        ensures state { state_of self.new ≡ (changing (state_of self.old) (insert_lines (side_of side) at count value)).0 }
+        ensures { (state_of self.new, answered result) ≡ changing (state_of self.old) (insert_lines (side_of side) at count value) }
     {
         self.sheet.insert_lines(side, at, count, value)
     }
 
     fn remove(&mut self, side: Side, at: u32, count: u32) -> Result<(), Refusal>
-        ensures which { answered result ≡ (changing (state_of self.old) (remove_lines (side_of side) at count)).1 }
-        ensures state { state_of self.new ≡ (changing (state_of self.old) (remove_lines (side_of side) at count)).0 }
+        ensures { (state_of self.new, answered result) ≡ changing (state_of self.old) (remove_lines (side_of side) at count) }
     {
         self.sheet.remove_lines(side, at, count)
     }
 
     // Carries out a command; first of all a sheet must be open for it. A match: each command has numbers of its own.
     fn perform(&mut self, command: Command) -> Result<(), Refusal>
-        ensures which { answered result ≡ (performed (state_of self.old) command).1 }
-        ensures state { state_of self.new ≡ (performed (state_of self.old) command).0 }
+        ensures { (state_of self.new, answered result) ≡ performed (state_of self.old) command }
     {
         if needs_sheet(command) && !self.opened {
             return Err(Refusal::NoSheet);

@@ -7,7 +7,8 @@ use moves::blocks::copy_block;
 use moves::edition::{compress_rows, restore_rows};
 use moves::vec_storage::{Block, Table};
 
-// Gives each of the columns, of m rows now, its former rows.
+// Gives each of the columns, of m rows now, its former rows. A text of its own beside `resize_rows` of `resizing`: the
+// rows come from a buffer, by another move of `moves`, and what is left to share is the test.
 fn bring_back_rows<T: Copy>(saved: &[T], cells: &mut [T], m: usize, rows: usize, columns: usize)
     requires { (m * columns ≤ length cells.old) × (rows * columns ≤ length cells.old) × ((rows - m) * columns ≤ length saved.now) }
     ensures { RowsBack saved.now cells.old cells.new m rows columns }

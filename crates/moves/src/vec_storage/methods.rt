@@ -57,7 +57,8 @@ impl<'a, T> Table<'a, T> {
         }
     }
 
-    // Gives the table another shape; the cells are left to the caller.
+    // Gives the table another shape; the cells are left to the caller. Two clauses, here and where it is called: the two
+    // questions that a caller has put.
     pub fn set_shape(&mut self, rows: u32, columns: u32)
         requires few { (rows ≤ 4096) × (columns ≤ 4096) }
         requires fits { rows * columns ≤ length self.old.cells.now }

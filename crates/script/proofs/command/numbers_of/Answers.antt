@@ -1,13 +1,12 @@
 use Rattle.std.proofs.Common.{length, sym, ◌∙◌, rules, tests, length-append}
-use Rattle.std.specs.Option.{option_map}
 use Rattle.std.proofs.lemmas.Iterator.Splits.{YieldsList-from_slice_split}
 use Rattle.std.proofs.lemmas.Iterator.Consumers.{YieldsList-from_enumerate}
-use Rattle.script.specs.Words.{further}
+use Rattle.script.specs.Words.{words_of}
 use Rattle.script.proofs.Listing.{Next, next_word, no_word, read_room, read_more, read_bad, read_all}
 use Rattle.script.proofs.command.numbers_of.Goals as goal
 use Rattle.script.proofs.command.numbers_of.Goals.{In-Some-2, in-Some+in-None, in_default}
 
-next : (c : In-Some-2) → Next (further (option_map (λ x. x.now) c.args.words)) c.in-Some-2.word.now c.in-Some-2.k (length c.loop-k.yielded)
+next : (c : In-Some-2) → Next (words_of c.args.words) c.in-Some-2.word.now c.in-Some-2.k (length c.loop-k.yielded)
 next c =
     next_word c.in-Some.is (YieldsList-from_enumerate (YieldsList-from_slice_split _ _ c.in-Some.text.now (cc) (cc) (cc) (λ x b q k. search (rules, tests))) (cc)) _ c.loop-k.yielded_by c.next.ensures.steps c.in-Some-2.is
 
