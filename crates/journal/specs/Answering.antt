@@ -16,7 +16,7 @@ use Rattle.model.specs.Reached.{Reachable}
 abbrev pub Held : {A : Type 0} → Parts A → Type 0
 Held p = Reachable (view p)
 
--- the answer and the state after are the model's, and a refusal alters nothing
+-- the answer and the state after are the model's, and a refusal, by its number as the model has it, alters nothing
 pub record Answers {A : Type 0} (p q : Parts A) (call : Call A) (r : Result Unit Refusal) : Type 0 where
   pub which : answered r ≡ (step (view p) call).1
   pub state : view q ≡ (step (view p) call).0

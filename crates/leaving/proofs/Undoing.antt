@@ -51,11 +51,11 @@ module _ {A : Type 0} (p : Parts A) (e : Entry) (held : Held p) (is : leaving.Ne
         let h = length-append w.former.runs (model.runs_of t w.last) in
         let l = runs_long p in omega arith);
     saved = own_cells;
-    rows = by_change e.rows 4096 (λ w. let f = ap (λ (z : model.Entry). z.rows_were) (its_entry w) in omega (arith, f, w.bounds.rows));
-    columns = by_change e.columns 4096 (λ w. let f = ap (λ (z : model.Entry). z.columns_were) (its_entry w) in omega (arith, f, w.bounds.columns));
+    rows = by_change e.rows 4096 (λ w. let f = ap (λ (z : model.Entry). z.rows_were) (its_entry w) in omega (arith, f, w.bounds.within.rows));
+    columns = by_change e.columns 4096 (λ w. let f = ap (λ (z : model.Entry). z.columns_were) (its_entry w) in omega (arith, f, w.bounds.within.columns));
     cells = by_change (e.rows * e.columns) (length p.table.cells.now) (λ w.
         let f = ap (λ (z : model.Entry). z.rows_were * z.columns_were) (its_entry w) in
-        let g = ap (λ (z : Sheet A). z.room.for_cells) w.is in omega (arith, f, g, w.bounds.cells));
+        let g = ap (λ (z : Sheet A). z.room.for_cells) w.is in omega (arith, f, g, w.bounds.within.cells));
   }
 
   module _ (q : Parts A) (w : TakesBack p q e) where

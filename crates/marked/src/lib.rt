@@ -35,7 +35,8 @@ impl Marked for u32 {
     }
 }
 
-// A note whose parts do not belong together has the mark 999.
+// A note whose parts do not belong together has the mark 999, and no Option: an example compares marks with numbers, and
+// none has that one.
 impl Marked for WeighingNote {
     ghost cell_of = { note_of };
 

@@ -67,10 +67,12 @@ module _ {A : Type 0} (s : Sheet A) (ch : Change A) (ok : verdict s ch ≡ done)
       let p7 = first_passed 7 q7 r7 o6 in
       let shape = and_parts (leb m 4096) (leb n 4096) p3 in
       record {
-        right = right_changed s.table ch b.right p2;
-        rows = leb-true m 4096 shape.0;
-        columns = leb-true n 4096 shape.1;
-        cells = leb-true (m * n) s.room.for_cells p4;
+        within = record {
+          right = right_changed s.table ch b.within.right p2;
+          rows = leb-true m 4096 shape.0;
+          columns = leb-true n 4096 shape.1;
+          cells = leb-true (m * n) s.room.for_cells p4;
+        };
         entries = ltb-true (length s.entries) s.room.for_entries p5;
         runs = let l = length-append s.runs (runs_of s.table ch) in let k = leb-true _ _ p6 in omega arith;
         saved = let l = length-append s.saved (lost_of s.table ch) in let k = leb-true _ _ p7 in omega arith;
@@ -79,10 +81,7 @@ module _ {A : Type 0} (s : Sheet A) (ch : Change A) (ok : verdict s ch ≡ done)
 module _ {A : Type 0} (t : Table A) (room : Room) (h : Within t room) where
   bounds_reach : (past : List (Call A)) → Accepts t room past → Bounds (reach t room past)
   bounds_reach [] ok = record {
-    right = h.right;
-    rows = h.rows;
-    columns = h.columns;
-    cells = h.cells;
+    within = h;
     entries = omega arith;
     runs = omega arith;
     saved = omega arith;
@@ -94,10 +93,7 @@ module _ {A : Type 0} (t : Table A) (room : Room) (h : Within t room) where
   bounds_reach (settle ∷ past) ok =
       let b = bounds_reach past ok.2 in
       record {
-        right = b.right;
-        rows = b.rows;
-        columns = b.columns;
-        cells = b.cells;
+        within = b.within;
         entries = omega arith;
         runs = omega arith;
         saved = omega arith;
@@ -130,4 +126,4 @@ pub newest_back : {A : Type 0} (s : Sheet A) (p : Entry) (ps : List Entry) → s
 newest_back {A} s p ps e w =
     sym (ap (λ qs. (taken_back s qs).0) e)
     ∙ ap (λ z. (step z undo).0) w.is
-    ∙ undo_after w.former w.last w.bounds.right (newest_named s w)
+    ∙ undo_after w.former w.last w.bounds.within.right (newest_named s w)

@@ -22,10 +22,7 @@ Reachable s = ∥ Reached s ∥₁
 
 -- what every reachable sheet keeps to
 pub record Bounds {A : Type 0} (s : Sheet A) : Type 0 where
-  pub right : Right s.table
-  pub rows : s.table.rows ≤ 4096
-  pub columns : s.table.columns ≤ 4096
-  pub cells : s.table.rows * s.table.columns ≤ s.room.for_cells
+  pub within : Within s.table s.room
   pub entries : length s.entries ≤ s.room.for_entries
   pub runs : length s.runs ≤ s.room.for_runs
   pub saved : length s.saved ≤ s.room.for_saved

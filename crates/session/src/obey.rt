@@ -110,7 +110,8 @@ impl<'s, 'a> Session<'s, 'a> {
         }
     }
 
-    // Reads and carries out the line with this number: its command, or why it is refused.
+    // Reads and carries out the line with this number: its command, or why it is refused. A fault of the text has its
+    // word; what a sheet refuses is at word 1.
     fn answer(&mut self, number: usize, line: &[u8]) -> Result<Command, Refused>
         ensures state { state_of self.new ≡ (obeyed (state_of self.old) number (decided line.now)).0 }
         ensures said { said result (state_of self.new).sheet.table ≡ (obeyed (state_of self.old) number (decided line.now)).1 }

@@ -74,5 +74,5 @@ module _ {A : Type 0} (p : Parts A) (e : Entry) (held : Held p) (is : leaving.Ne
       let ec = columns_are w in
       let s2 = subst (λ z. Swapped side (dense f.rows z) p.table.cells.now zs i j) ec (subst (λ z. Swapped side (dense z p.table.columns) p.table.cells.now zs i j) er s) in
       let size : p.table.rows * p.table.columns ≡ f.rows * f.columns = ap₂ ◌*◌ er ec in
-      exchanged_back side f i j (there w).0 (there w).1 w.bounds.right p.table.cells.now zs s2 (omega (arith, p.table.fits))
+      exchanged_back side f i j (there w).0 (there w).1 w.bounds.within.right p.table.cells.now zs s2 (omega (arith, p.table.fits))
       (ap (λ k. take k p.table.cells.now) (sym size) ∙ ap (λ (z : Table A). z.cells) (table_is w))

@@ -63,7 +63,7 @@ module _ {A : Type 0} (p : Parts A) (w : Newest (view p)) where
   pub former_fits : w.former.table.rows * w.former.table.columns ≤ length p.table.cells.now
   former_fits =
       let e : length p.table.cells.now ≡ w.former.room.for_cells = ap (λ (z : Sheet A). z.room.for_cells) w.is in
-      omega (arith, w.bounds.cells)
+      omega (arith, w.bounds.within.cells)
 
   -- a buffer that has every former cell in its old place
   pub former_back :
@@ -77,7 +77,7 @@ module _ {A : Type 0} (p : Parts A) (w : Newest (view p)) where
       let room = former_fits in
       let er = rows_now in
       let ec = columns_now in
-      table_cells t zs w.bounds.right (omega arith) (λ r c a b.
+      table_cells t zs w.bounds.within.right (omega arith) (λ r c a b.
       let s = h r c a b in
       let hk : s.k < p.table.rows = omega (arith, s.on_row.there) in
       let hl : s.l < p.table.columns = omega (arith, s.on_column.there) in
@@ -85,5 +85,5 @@ module _ {A : Type 0} (p : Parts A) (w : Newest (view p)) where
       let fits = p.table.fits in
       let inside = mul-add-lt s.l p.table.rows s.k p.table.columns hl hk in
       same_cell zs ys (r + c * t.rows) (s.k + s.l * p.table.rows) (omega arith) (omega arith) s.same
-      ∙ former_cell t ch p.table.rows p.table.columns ys w.bounds.right (newest_named (view p) w) (sym er) (sym ec)
+      ∙ former_cell t ch p.table.rows p.table.columns ys w.bounds.within.right (newest_named (view p) w) (sym er) (sym ec)
       (ap (λ (z : Sheet A). z.table.cells) w.is) s.k s.l r c hk hl s.on_row.is s.on_column.is)

@@ -64,7 +64,7 @@ module _ {A : Type 0} (p : Parts A) (e : Entry) (held : Held p) (is : leaving.Ne
     own_count : length src ≡ lost
     own_count =
         ap length (own_lost ∙ ap (lost_of w.former.table) last_is)
-        ∙ (resized w.former.table p.table.rows p.table.columns form.value w.bounds.right).lost
+        ∙ (resized w.former.table p.table.rows p.table.columns form.value w.bounds.within.right).lost
         ∙ ap₂ (λ R C. count_of_lost R C p.table.rows p.table.columns) (sym rows_as_before) (sym columns_as_before)
 
     pub table_back : (zs : List A) → ShapeBack src p.table.cells.now zs p.table.rows p.table.columns e.rows e.columns
@@ -74,10 +74,10 @@ module _ {A : Type 0} (p : Parts A) (e : Entry) (held : Held p) (is : leaving.Ne
         let m = p.table.rows in
         let n = p.table.columns in
         let room : length p.table.cells.now ≡ w.former.room.for_cells = ap (λ (z : Sheet A). z.room.for_cells) w.is in
-        cells_back t w.bounds.right m n form.value src p.table.cells.now zs
+        cells_back t w.bounds.within.right m n form.value src p.table.cells.now zs
         (ap (λ (z : Sheet A). z.table.cells) w.is ∙ ap (λ ch. (changed t ch).cells) last_is)
         p.table.fits
-        (omega (arith, room, w.bounds.cells))
+        (omega (arith, room, w.bounds.within.cells))
         (own_lost ∙ ap (lost_of t) last_is)
         (subst (λ C. ShapeBack src p.table.cells.now zs m n t.rows C) columns_as_before
         (subst (λ R. ShapeBack src p.table.cells.now zs m n R e.columns) rows_as_before h))

@@ -37,7 +37,8 @@ impl<'a, T: Copy> Sheet<'a, T> {
         opening::ask_opening(layout, source.len(), sizes)
     }
 
-    // The layout's table, copied to `cells`, with no entry; or the question that says no.
+    // The layout's table, copied to `cells`, with no entry; or the question that says no. What is asked stands in each
+    // contract here with the room that it is asked of: of handed-in buffers, or of those that a sheet has.
     pub fn new<L: Layout>(
         layout: &L,
         source: &[T],
@@ -97,7 +98,7 @@ impl<'a, T: Copy> Sheet<'a, T> {
         (self.parts.table.rows, self.parts.table.columns)
     }
 
-    // The cell, if it is in the shape.
+    // The cell, if it is in the shape. Not by way of a layout, which would be made and tested again for each cell.
     pub fn get(&self, row: u32, column: u32) -> Option<T>
         ensures { Read (view self.now.parts).table row column result }
     {
