@@ -7,7 +7,7 @@ import sys
 
 ROWS, CELLS, ENTRIES, RUNS, SAVED = 4096, 4096, 64, 256, 4096
 TAKES = {"i": (2, 3), "r": (2, 2), "a": (0, 16), "s": (2, 2), "n": (2, 3), "z": (2, 3), "u": (0, 0), "k": (0, 0), "p": (0, 0)}
-ALIVE = ["ir", "ic", "rr", "rc", "n", "p"]
+ALIVE = ["ir", "ic", "rr", "rc", "ar", "ac", "sr", "sc", "n", "z", "p"]
 
 
 class No(Exception):
@@ -21,7 +21,7 @@ class Sheet:
         self.rows, self.columns = rows, columns
         self.entries = self.runs = self.saved = 0
 
-    def ask(self, rows, columns, runs, saved):
+    def ask(self, rows, columns, runs, saved, columnless=False):
         if rows > ROWS or columns > ROWS:
             raise No(3)
         if rows * columns > CELLS:
@@ -32,6 +32,8 @@ class Sheet:
             raise No(6)
         if self.saved + saved > SAVED:
             raise No(7)
+        if columnless:
+            raise No(9)
         self.entries, self.runs, self.saved = self.entries + 1, self.runs + runs, self.saved + saved
         self.rows, self.columns = rows, columns
 
@@ -49,6 +51,34 @@ class Sheet:
         else:
             for row in self.table:
                 row[i:i + (0 if letter == "i" else n)] = [v] * n if letter == "i" else []
+
+    def without(self, side, listed):
+        count = self.rows if side == "r" else self.columns
+        gone = sorted({k for k in listed if k < count})
+        runs = sum(1 for k in gone if k - 1 not in gone)
+        rows = self.rows - (len(gone) if side == "r" else 0)
+        columns = self.columns - (len(gone) if side == "c" else 0)
+        had = self.columns
+        self.ask(rows, columns, runs, self.rows * self.columns - rows * columns, side == "r" and had == 0)
+        if side == "r":
+            self.table = [row for k, row in enumerate(self.table) if k not in gone]
+        else:
+            self.table = [[x for k, x in enumerate(row) if k not in gone] for row in self.table]
+
+    def swap(self, side, i, j):
+        if max(i, j) >= (self.rows if side == "r" else self.columns):
+            raise No(2)
+        self.ask(self.rows, self.columns, 0, 0)
+        if side == "r":
+            self.table[i], self.table[j] = self.table[j], self.table[i]
+        else:
+            for row in self.table:
+                row[i], row[j] = row[j], row[i]
+
+    def resize(self, rows, columns, v):
+        old, m, n = self.table, self.rows, self.columns
+        self.ask(rows, columns, 0, m * n - min(m, rows) * min(n, columns))
+        self.table = [[old[r][c] if r < m and c < n else v for c in range(columns)] for r in range(rows)]
 
 
 def number(word, at):
@@ -76,6 +106,12 @@ def obey(sheet, line):
         raise No(16)
     elif verb == "p":
         return sheet, [" ".join(map(str, row)) for row in sheet.table]
+    elif verb == "z":
+        sheet.resize(*ns[:3])
+    elif verb[0] == "a":
+        sheet.without(verb[1], ns[:len(words) - 1])
+    elif verb[0] == "s":
+        sheet.swap(verb[1], *ns[:2])
     else:
         sheet.change(verb[0], verb[1], *ns[:3])
     return sheet, [f"ok {sheet.rows} {sheet.columns}"]

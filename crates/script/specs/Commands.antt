@@ -46,10 +46,10 @@ takes v k = nat_le (fewest v) k && nat_le k (most v)
 abbrev pub lives : Verb → Bool
 lives (Insert s) = true
 lives (Remove s) = true
-lives (RemoveAt s) = false
-lives (Swap s) = false
+lives (RemoveAt s) = true
+lives (Swap s) = true
 lives New = true
-lives Resize = false
+lives Resize = true
 lives Undo = false
 lives Settle = false
 lives Print = true

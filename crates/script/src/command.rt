@@ -144,10 +144,7 @@ impl TryFrom<&[u8]> for Verb {
 pub fn lives(verb: Verb) -> bool
     ensures { result ≡ lives verb }
 {
-    match verb {
-        Verb::Insert(_) | Verb::Remove(_) | Verb::New | Verb::Print => true,
-        Verb::RemoveAt(_) | Verb::Swap(_) | Verb::Resize | Verb::Undo | Verb::Settle => false,
-    }
+    !matches!(verb, Verb::Undo | Verb::Settle)
 }
 
 // The fewest and the most numbers that a command takes.

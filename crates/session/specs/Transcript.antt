@@ -1,12 +1,13 @@
 -- What the lines of a script do to a sheet of weights, and what is written of each.
-use Rattle.std.specs.Prelude.{ℕ, ◌+◌, ◌*◌, Bool, true, false, cond, not, ◌&&◌, List, [], ◌∷◌, ◌++◌, length, replicate, Ok, Err, Result, nat_le}
+use Rattle.std.specs.Prelude.{ℕ, ◌+◌, ◌*◌, Bool, true, false, cond, not, ◌&&◌, List, [], ◌∷◌, ◌++◌, length, take, replicate, min, Ok, Err, Result, nat_le}
 use Rattle.std.specs.List.{range_with_len, flat_map}
 use Rattle.layout.specs.Refusals.{number_of}
 use Rattle.journal.specs.View.{side_of}
-use Rattle.model.specs.Sheet.{Table, Change, insert_lines, remove_lines}
+use Rattle.model.specs.Sheet.{Table, Change, insert_lines, remove_lines, remove_listed, swap_lines, resize_to}
 use Rattle.model.specs.Journal.{Sheet, Room, Answer, done, refused, change, first_no, opened, step}
 use Rattle.script.specs.declared.command.Command.{Command}
 use Rattle.script.specs.declared.command.Command.TheVariants.{Insert, Remove, RemoveAt, Swap, New, Resize, Undo, Settle, Print, Remark}
+use Rattle.script.specs.declared.command.Numbers.{Numbers}
 use Rattle.script.specs.declared.command.Fault.{Fault}
 use Rattle.script.specs.Commands.{decided}
 use Rattle.answers.specs.declared.answer.Refused.{Refused}
@@ -43,13 +44,17 @@ abbrev pub opening : State → Table ℕ → Answer → State × Answer
 opening s t done = (record { is_open = true; sheet = opened t s.sheet.room }, done)
 opening s t (refused k) = (s, refused k)
 
+-- the numbers without the zeros behind them
+abbrev pub listed_in : Numbers → List ℕ
+listed_in ns = take (min ns.count 16) ns.at
+
 abbrev pub carried : State → Command → State × Answer
 carried s (Insert side i n v) = changing s (insert_lines (side_of side) i n v)
 carried s (Remove side i n) = changing s (remove_lines (side_of side) i n)
-carried s (RemoveAt side ns) = (s, refused 14)
-carried s (Swap side i j) = (s, refused 14)
+carried s (RemoveAt side ns) = changing s (remove_listed (side_of side) (listed_in ns))
+carried s (Swap side i j) = changing s (swap_lines (side_of side) i j)
 carried s (New rows columns v) = opening s (plain rows columns v) (first_no (new_tests s.sheet.room rows columns))
-carried s (Resize rows columns v) = (s, refused 14)
+carried s (Resize rows columns v) = changing s (resize_to rows columns v)
 carried s Undo = (s, refused 14)
 carried s Settle = (s, refused 14)
 carried s Print = (s, done)

@@ -1,8 +1,8 @@
 ghost use Rattle.std.specs.Prelude.{◌≡◌, ◌++◌, OnOk};
 ghost use Rattle.journal.specs.View.{answered, side_of, view};
 ghost use Rattle.script.specs.Commands.{decided};
-ghost use Rattle.model.specs.Sheet.{insert_lines, remove_lines};
-ghost use Rattle.session.specs.Transcript.{changing, needs_a_sheet, obeyed, outcome, performed, printed, said, unopened};
+ghost use Rattle.model.specs.Sheet.{insert_lines, remove_lines, remove_listed, resize_to, swap_lines};
+ghost use Rattle.session.specs.Transcript.{changing, listed_in, needs_a_sheet, obeyed, outcome, performed, printed, said, unopened};
 ghost use Rattle.session.specs.Meaning.{NewAnswers, state_of};
 
 use super::state::Session;
@@ -10,7 +10,7 @@ use answers::answer::{Done, Refused, put_answer, put_row};
 use layout::refusal::Refusal;
 use layout::side::Side;
 use layout::vec_storage::Dense;
-use script::command::{Command, decide};
+use script::command::{Command, Numbers, decide};
 use sheet::cell::Weight;
 use sheet::sheet::Sheet;
 use std::alloc::AllocError;
@@ -67,6 +67,24 @@ impl<'s, 'a> Session<'s, 'a> {
         self.sheet.remove_lines(side, at, count)
     }
 
+    fn remove_at(&mut self, side: Side, lines: Numbers) -> Result<(), Refusal>
+        ensures { (state_of self.new, answered result) ≡ changing (state_of self.old) (remove_listed (side_of side) (listed_in lines)) }
+    {
+        self.sheet.remove_lines_at(side, lines.as_slice())
+    }
+
+    fn swap(&mut self, side: Side, first: u32, second: u32) -> Result<(), Refusal>
+        ensures { (state_of self.new, answered result) ≡ changing (state_of self.old) (swap_lines (side_of side) first second) }
+    {
+        self.sheet.swap_lines(side, first, second)
+    }
+
+    fn resize(&mut self, rows: u32, columns: u32, value: Weight) -> Result<(), Refusal>
+        ensures { (state_of self.new, answered result) ≡ changing (state_of self.old) (resize_to rows columns value) }
+    {
+        self.sheet.resize_mut(rows, columns, value)
+    }
+
     // Carries out a command; first of all a sheet must be open for it. A match: each command has numbers of its own.
     fn perform(&mut self, command: Command) -> Result<(), Refusal>
         ensures { (state_of self.new, answered result) ≡ performed (state_of self.old) command }
@@ -87,12 +105,19 @@ impl<'s, 'a> Session<'s, 'a> {
                 value,
             } => self.insert(side, at, count, value),
             Command::Remove { side, at, count } => self.remove(side, at, count),
+            Command::RemoveAt { side, lines } => self.remove_at(side, lines),
+            Command::Swap {
+                side,
+                first,
+                second,
+            } => self.swap(side, first, second),
+            Command::Resize {
+                rows,
+                columns,
+                value,
+            } => self.resize(rows, columns, value),
             Command::Print | Command::Remark => Ok(()),
-            Command::RemoveAt { .. }
-            | Command::Swap { .. }
-            | Command::Resize { .. }
-            | Command::Undo
-            | Command::Settle => Err(Refusal::NoCommand),
+            Command::Undo | Command::Settle => Err(Refusal::NoCommand),
         }
     }
 
