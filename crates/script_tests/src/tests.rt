@@ -25,7 +25,16 @@ fn lines_are_decided(rt: HostRuntime) {
     refused(&rt, b"", Refusal::NoCommand, 1);
     refused(&rt, b" p", Refusal::NoCommand, 1);
     refused(&rt, b"\xc3\xa4r 1 2", Refusal::NoCommand, 1);
-    refused(&rt, b"sr 1 2", Refusal::NoCommand, 1);
+    let swap = Command::Swap {
+        side: Side::Rows,
+        first: 1,
+        second: 2,
+    };
+    assert_eq!(rt; decide(b"sr 1 2"), Ok(swap));
+    refused(&rt, b"sr 1", Refusal::BadNumber, 1);
+    refused(&rt, b"ac 0 x", Refusal::BadNumber, 3);
+    refused(&rt, b"u", Refusal::NoCommand, 1);
+    refused(&rt, b"k", Refusal::NoCommand, 1);
     refused(
         &rt,
         b"p                                                                               ",
