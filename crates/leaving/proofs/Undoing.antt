@@ -1,9 +1,9 @@
 -- The newest change taken back, whichever it was: what is left to show is that the former cells stand there again.
-use Rattle.std.proofs.Common.{◌≡◌, ℕ, ◌+◌, ◌-◌, ◌*◌, ◌<◌, ◌≤◌, [], ◌∷◌, map, reverse, length, get_or, take, Ok, sym, ap, ◌∙◌, ap₂, arith, length-append}
+use Rattle.std.proofs.Common.{◌≡◌, ℕ, ◌-◌, ◌*◌, ◌≤◌, ◌∷◌, map, reverse, length, take, Ok, sym, ap, ◌∙◌, ap₂, arith, length-append, List, ◌++◌, drop}
 use mathlib.Core.List.{is_set}
 use native.Mathlib.Bridge.{le_prop}
-use Rattle.std.proofs.Math.Seq.{take-length}
-use Rattle.std.proofs.lemmas.List.{take_more, take-map, reverse-append}
+use Rattle.std.proofs.Math.Seq.{drop-append_seam}
+use Rattle.std.proofs.lemmas.List.{take-map}
 use Rattle.moves.specs.declared.vec_storage.Table.{Table}
 use Rattle.moves.specs.Stores.{items}
 use Rattle.model.specs.Journal as model
@@ -39,6 +39,18 @@ module _ {A : Type 0} (p : Parts A) (e : Entry) (held : Held p) (is : leaving.Ne
       let g = ap (λ (z : Sheet A). length z.saved) w.is in
       let h = length-append w.former.saved (lost_of t w.last) in
       omega arith)
+
+  -- and are what the change lost
+  pub own_lost : (src : List A) → src ≡ drop (length (items p.saved) - e.cells) (items p.saved) → (w : Newest (view p)) → src ≡ lost_of w.former.table w.last
+  own_lost src own w =
+      let gone : List A = lost_of w.former.table w.last in
+      let all : items p.saved ≡ w.former.saved ++ gone = ap (λ (z : Sheet A). z.saved) w.is in
+      let n = ap (λ (z : model.Entry). z.cells_own) (its_entry w) in
+      let f = ap length all in
+      let g = length-append w.former.saved gone in
+      own
+      ∙ ap₂ drop (let z : length (items p.saved) - e.cells ≡ length w.former.saved = omega arith in z) all
+      ∙ drop-append_seam w.former.saved gone
 
   -- so are its runs and itself; the table before it has its shape, and had the same room
   pub leaves : Leaves p e

@@ -174,4 +174,16 @@ impl<'a, T: Copy> Table<'a, T> {
         insert_rows(self.cells, b, v);
         self.set_count(side, more);
     }
+
+    // Puts n lines that were saved in at i; the shape is left to the caller.
+    pub fn restore_lines(&mut self, side: Side, i: u32, n: u32, saved: &[T])
+        requires there { i ≤ count_of self.old side }
+        requires fits { cells_of self.old side (count_of self.old side + n) ≤ length self.old.cells.now }
+        requires saved { cells_of self.old side n ≤ length saved.now }
+        ensures cells { Restored saved.now self.old.cells.now self.new.cells.now (block_in self.old side i n) }
+        ensures shape { SameShape self.old self.new }
+    {
+        let b = self.block(side, i, n);
+        restore_rows(saved, self.cells, b);
+    }
 }

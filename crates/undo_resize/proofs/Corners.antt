@@ -1,8 +1,6 @@
 -- Places of a table before and after it gets its former shape back.
-use Rattle.std.proofs.Common.{◌≡◌, ℕ, ◌+◌, ◌-◌, ◌*◌, ◌<◌, ◌≤◌, min, List, get_or, sym, ap, ◌∙◌, ap₂, mul_comm, arith}
-use Rattle.moves.specs.Blocks.{rows_block}
+use Rattle.std.proofs.Common.{◌≡◌, ℕ, ◌+◌, ◌-◌, ◌*◌, min, List, get_or, ap, ◌∙◌, ap₂, mul_comm, arith}
 use Rattle.moves.specs.Slides.{Copied}
-use Rattle.moves.specs.Tables.{Compressed, Restored}
 use Rattle.moves.proofs.Places.{columns_lt, columns_split, columns_sum, columns_same}
 use Rattle.model.proofs.Resized.{outside}
 use Rattle.undo_resize.specs.Back.{RowsBack, ShapeBack}

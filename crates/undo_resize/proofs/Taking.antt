@@ -1,6 +1,5 @@
 -- The newest change, a resize, taken back.
-use Rattle.std.proofs.Common.{◌≡◌, ℕ, ◌-◌, ◌*◌, ◌≤◌, min, List, ◌++◌, length, take, drop, sym, ap, ◌∙◌, subst, ap₂, arith, length-append}
-use Rattle.std.proofs.Math.Seq.{drop-append_seam}
+use Rattle.std.proofs.Common.{◌≡◌, ℕ, ◌-◌, ◌*◌, ◌≤◌, List, length, take, drop, sym, ap, ◌∙◌, subst, ap₂, arith}
 use Rattle.moves.specs.Blocks.{count_of_lost}
 use Rattle.moves.specs.Stores.{items}
 use Rattle.model.specs.Sheet.{resize_to, Table, rows_of, columns_of, changed}
@@ -13,7 +12,7 @@ use Rattle.journal.specs.declared.parts.Parts.{Parts}
 use Rattle.journal.specs.View.{view}
 use Rattle.journal.specs.Answering.{Held}
 use Rattle.leaving.specs.Leaving as leaving
-use Rattle.leaving.proofs.Undoing.{its_entry, by_change}
+use Rattle.leaving.proofs.Undoing.{its_entry, by_change, own_lost}
 use Rattle.undo_resize.specs.Back.{ShapeBack}
 use Rattle.undo_resize.specs.Noted.{OfResize, is_resizing}
 use Rattle.undo_resize.proofs.Cells.{Resized, was_resized, cells_back}
@@ -49,21 +48,9 @@ module _ {A : Type 0} (p : Parts A) (e : Entry) (held : Held p) (is : leaving.Ne
     columns_as_before : e.columns ≡ w.former.table.columns
     columns_as_before = ap (λ (z : model.Entry). z.columns_were) (its_entry p e held is w)
 
-    -- its own cells are what the change lost
-    own_lost : src ≡ lost_of w.former.table w.last
-    own_lost =
-        let gone : List A = lost_of w.former.table w.last in
-        let all : items p.saved ≡ w.former.saved ++ gone = ap (λ (z : Sheet A). z.saved) w.is in
-        let n = ap (λ (z : model.Entry). z.cells_own) (its_entry p e held is w) in
-        let f = ap length all in
-        let g = length-append w.former.saved gone in
-        own
-        ∙ ap₂ drop (let z : length (items p.saved) - e.cells ≡ length w.former.saved = omega arith in z) all
-        ∙ drop-append_seam w.former.saved gone
-
     own_count : length src ≡ lost
     own_count =
-        ap length (own_lost ∙ ap (lost_of w.former.table) last_is)
+        ap length (own_lost p e held is src own w ∙ ap (lost_of w.former.table) last_is)
         ∙ (resized w.former.table p.table.rows p.table.columns form.value w.bounds.within.right).lost
         ∙ ap₂ (λ R C. count_of_lost R C p.table.rows p.table.columns) (sym rows_as_before) (sym columns_as_before)
 
@@ -78,7 +65,7 @@ module _ {A : Type 0} (p : Parts A) (e : Entry) (held : Held p) (is : leaving.Ne
         (ap (λ (z : Sheet A). z.table.cells) w.is ∙ ap (λ ch. (changed t ch).cells) last_is)
         p.table.fits
         (omega (arith, room, w.bounds.within.cells))
-        (own_lost ∙ ap (lost_of t) last_is)
+        (own_lost p e held is src own w ∙ ap (lost_of t) last_is)
         (subst (λ C. ShapeBack src p.table.cells.now zs m n t.rows C) columns_as_before
         (subst (λ R. ShapeBack src p.table.cells.now zs m n R e.columns) rows_as_before h))
 

@@ -1,4 +1,4 @@
-use Rattle.std.proofs.Common.{◌*◌, take, ap, ◌∙◌, arith}
+use Rattle.std.proofs.Common.{◌*◌, take, ap, ◌∙◌}
 use base.Stored.{Coded-set}
 use Rattle.leaving.proofs.Undoing.{leaves, moved_leaves, moved_undone, own_cells}
 use Rattle.undo_resize.proofs.Taking.{all_there, table_back}
