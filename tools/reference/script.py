@@ -7,7 +7,7 @@ import sys
 
 ROWS, CELLS, ENTRIES, RUNS, SAVED = 4096, 4096, 64, 256, 4096
 TAKES = {"i": (2, 3), "r": (2, 2), "a": (0, 16), "s": (2, 2), "n": (2, 3), "z": (2, 3), "u": (0, 0), "k": (0, 0), "p": (0, 0)}
-ALIVE = ["ir", "ic", "rr", "rc", "ar", "ac", "sr", "sc", "n", "z", "p"]
+ALIVE = ["ir", "ic", "rr", "rc", "ar", "ac", "sr", "sc", "n", "z", "u", "k", "p"]
 
 
 class No(Exception):
@@ -20,6 +20,7 @@ class Sheet:
         self.table = [[value] * columns for _ in range(rows)]
         self.rows, self.columns = rows, columns
         self.entries = self.runs = self.saved = 0
+        self.past = []
 
     def ask(self, rows, columns, runs, saved, columnless=False):
         if rows > ROWS or columns > ROWS:
@@ -34,6 +35,7 @@ class Sheet:
             raise No(7)
         if columnless:
             raise No(9)
+        self.past.append(([row[:] for row in self.table], self.rows, self.columns, self.runs, self.saved))
         self.entries, self.runs, self.saved = self.entries + 1, self.runs + runs, self.saved + saved
         self.rows, self.columns = rows, columns
 
@@ -80,6 +82,16 @@ class Sheet:
         self.ask(rows, columns, 0, m * n - min(m, rows) * min(n, columns))
         self.table = [[old[r][c] if r < m and c < n else v for c in range(columns)] for r in range(rows)]
 
+    def undo(self):
+        if not self.past:
+            raise No(8)
+        self.table, self.rows, self.columns, self.runs, self.saved = self.past.pop()
+        self.entries -= 1
+
+    def settle(self):
+        self.past = []
+        self.entries = self.runs = self.saved = 0
+
 
 def number(word, at):
     if not (1 <= len(word) <= 10 and all(48 <= b <= 57 for b in word)) or int(word) > 4294967295:
@@ -106,6 +118,10 @@ def obey(sheet, line):
         raise No(16)
     elif verb == "p":
         return sheet, [" ".join(map(str, row)) for row in sheet.table]
+    elif verb == "u":
+        sheet.undo()
+    elif verb == "k":
+        sheet.settle()
     elif verb == "z":
         sheet.resize(*ns[:3])
     elif verb[0] == "a":

@@ -1,9 +1,10 @@
 -- The newest change taken back, whichever it was: what is left to show is that the former cells stand there again.
-use Rattle.std.proofs.Common.{◌≡◌, ℕ, ◌-◌, ◌*◌, ◌≤◌, ◌∷◌, map, reverse, length, take, Ok, sym, ap, ◌∙◌, ap₂, arith, length-append, List, ◌++◌, drop}
+use Rattle.std.proofs.Common.{◌≡◌, ℕ, ◌+◌, ◌-◌, ◌*◌, ◌<◌, ◌≤◌, [], ◌∷◌, map, reverse, length, get_or, take, Ok, Err, refl, sym, ap, ◌∙◌, ap₂, arith, length-append, List, ◌++◌, drop}
 use mathlib.Core.List.{is_set}
 use native.Mathlib.Bridge.{le_prop}
-use Rattle.std.proofs.Math.Seq.{drop-append_seam}
-use Rattle.std.proofs.lemmas.List.{take-map}
+use Rattle.std.proofs.Math.Seq.{drop-append_seam, take-length}
+use Rattle.std.proofs.lemmas.List.{drop-map, reverse-append, take_more, take-map}
+use Rattle.layout.specs.declared.refusal.Refusal.{Refusal}
 use Rattle.moves.specs.declared.vec_storage.Table.{Table}
 use Rattle.moves.specs.Stores.{items}
 use Rattle.model.specs.Journal as model
@@ -19,6 +20,27 @@ use Rattle.journal.proofs.Answering.{same_room, same_sheet}
 use Rattle.journal.proofs.Asking.{entries_long, runs_long}
 use Rattle.leaving.specs.Leaving.{Leaves, TakesBack, below}
 use Rattle.leaving.specs.Leaving as leaving
+
+-- the newest entry, as an undo reads it
+pub newest : {A : Type 0} (p : Parts A) (e d : Entry) → 0 < length (items p.entries) → get_or (items p.entries) (length (items p.entries) - 1) d ≡ e
+    → leaving.Newest p e
+newest p e d h is =
+    let xs = items p.entries in
+    let j = length xs - 1 in
+    ap (λ zs. map entry_of (reverse zs)) (sym (take-length xs) ∙ ap (λ n. take n xs) (let m : length xs ≡ j + 1 = omega arith in m) ∙ take_more xs j d (omega arith))
+    ∙ ap (map entry_of) (reverse-append (take j xs) (get_or xs j d ∷ []))
+    ∙ ap (λ (x : Entry). entry_of x ∷ below p) is
+
+-- with no entry there is nothing to take back
+pub nothing_back : {A : Type 0} (p : Parts A) → Held p → items p.entries ≡ [] → Answers p p undo (Err Refusal.NothingToUndo)
+nothing_back p held none =
+    let e : entries_of p ≡ [] = ap (λ zs. map entry_of (reverse zs)) none in
+    record {
+      which = sym (ap (λ qs. (taken_back (view p) qs).1) e);
+      state = sym (ap (λ qs. (taken_back (view p) qs).0) e);
+      same = λ k z. refl;
+      held = held;
+    }
 
 module _ {A : Type 0} (p : Parts A) (e : Entry) (held : Held p) (is : leaving.Newest p e) where
   -- it is the entry of the newest change
@@ -51,6 +73,19 @@ module _ {A : Type 0} (p : Parts A) (e : Entry) (held : Held p) (is : leaving.Ne
       own
       ∙ ap₂ drop (let z : length (items p.saved) - e.cells ≡ length w.former.saved = omega arith in z) all
       ∙ drop-append_seam w.former.saved gone
+
+  -- and so are its runs
+  pub own_runs : (w : Newest (view p)) → map run_of (drop (length (items p.runs) - e.runs) (items p.runs)) ≡ model.runs_of w.former.table w.last
+  own_runs w =
+      let more = model.runs_of w.former.table w.last in
+      let all : runs_of p ≡ w.former.runs ++ more = ap (λ (z : Sheet A). z.runs) w.is in
+      let n = ap (λ (z : model.Entry). z.runs_own) (its_entry w) in
+      let f = ap length all in
+      let g = length-append w.former.runs more in
+      let l = runs_long p in
+      sym (drop-map run_of (length (items p.runs) - e.runs) (items p.runs))
+      ∙ ap₂ drop (let z : length (items p.runs) - e.runs ≡ length w.former.runs = omega arith in z) all
+      ∙ drop-append_seam w.former.runs more
 
   -- so are its runs and itself; the table before it has its shape, and had the same room
   pub leaves : Leaves p e

@@ -31,7 +31,7 @@ use Rattle.listings.proofs.Questions.{columnless, stopped_early}
 use Rattle.listings.proofs.Cells.{cells_left, cells_lost}
 
 -- the change in numbers, with the lines that were counted
-numbers : {A : Type 0} (t : Table A) (ks : List ℕ) (s : Side) (gone : ℕ) → Right t → gone ≡ goes ks (lines_in s t.rows t.columns)
+pub numbers : {A : Type 0} (t : Table A) (ks : List ℕ) (s : Side) (gone : ℕ) → Right t → gone ≡ goes ks (lines_in s t.rows t.columns)
     → Numbers t (remove_listed (side_of s) ks) (rows_with s (lines_in s t.rows t.columns - gone) t.rows) (columns_with s (lines_in s t.rows t.columns - gone) t.columns)
     (runs_from (listed ks) 0 (lines_in s t.rows t.columns)) (cells_in s gone t.rows t.columns)
 numbers t ks s gone right e =

@@ -42,18 +42,6 @@ most Print = 0
 abbrev pub takes : Verb → ℕ → Bool
 takes v k = nat_le (fewest v) k && nat_le k (most v)
 
--- the commands that are carried out; another is answered as a word that names none
-abbrev pub lives : Verb → Bool
-lives (Insert s) = true
-lives (Remove s) = true
-lives (RemoveAt s) = true
-lives (Swap s) = true
-lives New = true
-lives Resize = true
-lives Undo = false
-lives Settle = false
-lives Print = true
-
 -- ns before zeros
 abbrev pub packed : List ℕ → Numbers
 packed ns = record { at = ns ++ replicate (16 - length ns) 0; count = length ns }
@@ -85,7 +73,7 @@ command_read v ws = cond (takes v (length ws)) (with_numbers v (read_on [] ws)) 
 
 abbrev pub with_verb : Option Verb → List (List ℕ) → Result Command Fault
 with_verb None ws = Err (fault NoCommand 1)
-with_verb (Some v) ws = cond (lives v) (command_read v ws) (Err (fault NoCommand 1))
+with_verb (Some v) ws = command_read v ws
 
 -- a line of so many bytes, by its first token, which is never a number, and its further words
 abbrev pub by_part : ℕ → Part → List (List ℕ) → Result Command Fault

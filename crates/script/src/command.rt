@@ -5,7 +5,7 @@
 ghost use Rattle.std.specs.Prelude.{◌≡◌, ◌≤◌, min, [], length, take};
 ghost use Rattle.std.specs.Result.{result_ok};
 ghost use Rattle.layout.specs.declared.refusal.Refusal.TheVariants.{NoCommand};
-ghost use Rattle.script.specs.Commands.{fault, fewest, most, takes, lives, read_on, command_for, command_read, decided};
+ghost use Rattle.script.specs.Commands.{fault, fewest, most, takes, read_on, command_for, command_read, decided};
 ghost use Rattle.script.specs.Verbs.{verb_named, side_of};
 ghost use Rattle.script.specs.Words.{words_of};
 
@@ -140,13 +140,6 @@ impl TryFrom<&[u8]> for Verb {
     }
 }
 
-// Whether a command is carried out yet. One that is not is answered as a word that names none.
-pub fn lives(verb: Verb) -> bool
-    ensures { result ≡ lives verb }
-{
-    !matches!(verb, Verb::Undo | Verb::Settle)
-}
-
 // The fewest and the most numbers that a command takes.
 fn bounds(verb: Verb) -> (usize, usize)
     ensures low { result.0 ≡ fewest verb }
@@ -264,8 +257,5 @@ pub fn decide(line: &[u8]) -> Result<Command, Fault>
         return Err(NO_COMMAND);
     }
     let verb = Verb::try_from(word)?;
-    if !lives(verb) {
-        return Err(NO_COMMAND);
-    }
     read_command(verb, words)
 }

@@ -33,8 +33,9 @@ fn lines_are_decided(rt: HostRuntime) {
     assert_eq!(rt; decide(b"sr 1 2"), Ok(swap));
     refused(&rt, b"sr 1", Refusal::BadNumber, 1);
     refused(&rt, b"ac 0 x", Refusal::BadNumber, 3);
-    refused(&rt, b"u", Refusal::NoCommand, 1);
-    refused(&rt, b"k", Refusal::NoCommand, 1);
+    assert_eq!(rt; decide(b"u"), Ok(Command::Undo));
+    refused(&rt, b"u 1", Refusal::BadNumber, 1);
+    assert_eq!(rt; decide(b"k"), Ok(Command::Settle));
     refused(
         &rt,
         b"p                                                                               ",
@@ -54,7 +55,7 @@ fn lines_are_decided(rt: HostRuntime) {
     refused(&rt, b"n 4294967296 \xb2", Refusal::BadNumber, 2);
 }
 
-// Reads a line's command whether or not it is carried out yet.
+// Reads a line's command.
 fn read(line: &[u8]) -> Option<Result<Command, Fault>> {
     let (word, words) = cut(line, b' ');
     Some(read_command(Verb::try_from(word).ok()?, words))

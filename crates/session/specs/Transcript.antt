@@ -4,7 +4,7 @@ use Rattle.std.specs.List.{range_with_len, flat_map}
 use Rattle.layout.specs.Refusals.{number_of}
 use Rattle.journal.specs.View.{side_of}
 use Rattle.model.specs.Sheet.{Table, Change, insert_lines, remove_lines, remove_listed, swap_lines, resize_to}
-use Rattle.model.specs.Journal.{Sheet, Room, Answer, done, refused, change, first_no, opened, step}
+use Rattle.model.specs.Journal.{Sheet, Room, Answer, done, refused, Call, change, undo, settle, first_no, opened, step}
 use Rattle.script.specs.declared.command.Command.{Command}
 use Rattle.script.specs.declared.command.Command.TheVariants.{Insert, Remove, RemoveAt, Swap, New, Resize, Undo, Settle, Print, Remark}
 use Rattle.script.specs.declared.command.Numbers.{Numbers}
@@ -37,8 +37,11 @@ new_tests r rows columns =
     ∷ (10, nat_le (rows * columns) 4096)
     ∷ []
 
+abbrev pub calling : State → Call ℕ → State × Answer
+calling s c = (record { is_open = s.is_open; sheet = (step s.sheet c).0 }, (step s.sheet c).1)
+
 abbrev pub changing : State → Change ℕ → State × Answer
-changing s ch = (record { is_open = s.is_open; sheet = (step s.sheet (change ch)).0 }, (step s.sheet (change ch)).1)
+changing s ch = calling s (change ch)
 
 abbrev pub opening : State → Table ℕ → Answer → State × Answer
 opening s t done = (record { is_open = true; sheet = opened t s.sheet.room }, done)
@@ -55,8 +58,8 @@ carried s (RemoveAt side ns) = changing s (remove_listed (side_of side) (listed_
 carried s (Swap side i j) = changing s (swap_lines (side_of side) i j)
 carried s (New rows columns v) = opening s (plain rows columns v) (first_no (new_tests s.sheet.room rows columns))
 carried s (Resize rows columns v) = changing s (resize_to rows columns v)
-carried s Undo = (s, refused 14)
-carried s Settle = (s, refused 14)
+carried s Undo = calling s undo
+carried s Settle = calling s settle
 carried s Print = (s, done)
 carried s Remark = (s, done)
 

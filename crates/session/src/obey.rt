@@ -1,8 +1,9 @@
 ghost use Rattle.std.specs.Prelude.{◌≡◌, ◌++◌, OnOk};
 ghost use Rattle.journal.specs.View.{answered, side_of, view};
 ghost use Rattle.script.specs.Commands.{decided};
+ghost use Rattle.model.specs.Journal.{settle, undo};
 ghost use Rattle.model.specs.Sheet.{insert_lines, remove_lines, remove_listed, resize_to, swap_lines};
-ghost use Rattle.session.specs.Transcript.{changing, listed_in, needs_a_sheet, obeyed, outcome, performed, printed, said, unopened};
+ghost use Rattle.session.specs.Transcript.{calling, changing, listed_in, needs_a_sheet, obeyed, outcome, performed, printed, said, unopened};
 ghost use Rattle.session.specs.Meaning.{NewAnswers, state_of};
 
 use super::state::Session;
@@ -85,6 +86,19 @@ impl<'s, 'a> Session<'s, 'a> {
         self.sheet.resize_mut(rows, columns, value)
     }
 
+    fn undo(&mut self) -> Result<(), Refusal>
+        ensures { (state_of self.new, answered result) ≡ calling (state_of self.old) undo }
+    {
+        self.sheet.undo()
+    }
+
+    fn settle(&mut self) -> Result<(), Refusal>
+        ensures { (state_of self.new, answered result) ≡ calling (state_of self.old) settle }
+    {
+        self.sheet.settle();
+        Ok(())
+    }
+
     // Carries out a command; first of all a sheet must be open for it. A match: each command has numbers of its own.
     fn perform(&mut self, command: Command) -> Result<(), Refusal>
         ensures { (state_of self.new, answered result) ≡ performed (state_of self.old) command }
@@ -117,7 +131,8 @@ impl<'s, 'a> Session<'s, 'a> {
                 value,
             } => self.resize(rows, columns, value),
             Command::Print | Command::Remark => Ok(()),
-            Command::Undo | Command::Settle => Err(Refusal::NoCommand),
+            Command::Undo => self.undo(),
+            Command::Settle => self.settle(),
         }
     }
 

@@ -61,7 +61,7 @@ pub(crate) fn play<T: Copy + Marked>(
     }
 }
 
-// One call on the 3 × 2 table, over nine cells, one entry, two run pairs and four saved cells.
+// One call on the 3 × 2 table, over nine cells, one entry, two run pairs and four saved cells; and then it is taken back.
 fn answers<T: Copy + Marked>(
     rt: &impl Abort,
     call: Call<'_>,
@@ -87,6 +87,13 @@ fn answers<T: Copy + Marked>(
     assert!(rt; same_marks(sheet.saved(), after.saved));
     same_runs(rt, sheet.runs(), after.runs);
     assert_eq!(rt; sheet.entries().len(), if answer.is_ok() { 1 } else { 0 });
+    let back = answer.map_err(|_| Refusal::NothingToUndo);
+    assert_eq!(rt; sheet.undo(), back);
+    assert_eq!(rt; sheet.shape(), (3, 2));
+    assert!(rt; same_marks(sheet.cells(), &TABLE));
+    assert_eq!(rt; sheet.entries().len(), 0);
+    assert_eq!(rt; sheet.runs().len(), 0);
+    assert_eq!(rt; sheet.saved().len(), 0);
 }
 
 fn both_kinds(rt: &impl Abort, call: Call<'_>, answer: Result<(), Refusal>, after: After<'_>) {
@@ -300,4 +307,33 @@ fn no_column(rt: HostRuntime) {
     assert_eq!(rt; sheet.shape(), (3, 0));
     assert_eq!(rt; sheet.remove_rows(0, 1), Ok(()));
     assert_eq!(rt; sheet.remove_rows_at(&[0]), Err(Refusal::JournalFull));
+}
+
+// One entry is free: it is used again once the first one is settled, and nothing settled is taken back.
+#[test]
+fn settled(rt: HostRuntime) {
+    let mut cells = [0; 6];
+    let mut entries = [NO_ENTRY; 1];
+    let mut runs = [NO_RUN; 1];
+    let mut saved = [0; 3];
+    let mut sheet = Sheet::open(
+        &Dense::make(3, 2),
+        &TABLE,
+        &mut cells,
+        &mut entries,
+        &mut runs,
+        &mut saved,
+    );
+    assert_eq!(rt; sheet.undo(), Err(Refusal::NothingToUndo));
+    assert_eq!(rt; sheet.remove_columns(0, 1), Ok(()));
+    assert_eq!(rt; sheet.swap_rows(0, 1), Err(Refusal::JournalFull));
+    sheet.settle();
+    assert_eq!(rt; sheet.undo(), Err(Refusal::NothingToUndo));
+    assert_eq!(rt; sheet.remove_rows_at(&[0]), Ok(()));
+    assert_eq!(rt; sheet.cells(), &[5, 6][..]);
+    assert_eq!(rt; sheet.saved(), &[4][..]);
+    assert_eq!(rt; sheet.undo(), Ok(()));
+    assert_eq!(rt; sheet.cells(), &[4, 5, 6][..]);
+    sheet.settle();
+    assert_eq!(rt; sheet.entries().len(), 0);
 }

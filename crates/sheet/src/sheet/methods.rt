@@ -1,7 +1,7 @@
-ghost use Rattle.std.specs.Prelude.{◌≡◌, map, reverse, length, IfOk, MatchResult};
+ghost use Rattle.std.specs.Prelude.{◌≡◌, map, reverse, length, IfOk, MatchResult, Ok};
 ghost use Rattle.layout.specs.Checks.{Checked, Passes};
 ghost use Rattle.model.specs.Sheet.{row, column, insert_lines, remove_lines, remove_listed, resize_to, swap_lines};
-ghost use Rattle.model.specs.Journal.{change, opened};
+ghost use Rattle.model.specs.Journal.{change, opened, settle, undo};
 ghost use Rattle.journal.specs.View.{entry_of, room_of, run_of, side_of, view};
 ghost use Rattle.journal.specs.Answering.{Answers};
 ghost use Rattle.sheet.specs.Opening.{Read, no_table, opening_rules, room, room_in, table_in};
@@ -228,5 +228,20 @@ impl<'a, T: Copy> Sheet<'a, T> {
         ensures { Answers self.old.parts self.new.parts (change (resize_to rows columns v)) result }
     {
         resizing::resize_mut(&mut self.parts, rows, columns, v)
+    }
+
+    // Brings back shape and cells before the newest entry, and frees the entry, its runs and its saved cells. Puts
+    // question 8.
+    pub fn undo(&mut self) -> Result<(), Refusal>
+        ensures { Answers self.old.parts self.new.parts undo result }
+    {
+        undo::undo(&mut self.parts)
+    }
+
+    // Frees all entries, runs and saved cells: what was done stays done.
+    pub fn settle(&mut self)
+        ensures { Answers self.old.parts self.new.parts settle (Ok tt) }
+    {
+        leaving::settle(&mut self.parts);
     }
 }
