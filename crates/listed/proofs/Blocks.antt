@@ -157,7 +157,7 @@ closed w xs from e inside rs j at to top h ae back tl ys zs more long long2 same
 -- one group more
 
 module _ {A : Type 0} (w size g n : ℕ) (xs : List A) (rs : List (ℕ × ℕ)) (h : g < n) where
-  group_more : taken_of w size g (n - g) xs rs ≡ taken w (drop (g * size) xs) rs ++ taken_of w size (g + 1) (n - (g + 1)) xs rs
+  pub group_more : taken_of w size g (n - g) xs rs ≡ taken w (drop (g * size) xs) rs ++ taken_of w size (g + 1) (n - (g + 1)) xs rs
   group_more = ap (λ k. taken_of w size g k xs rs) (let e : n - g ≡ suc (n - (g + 1)) = omega arith in e)
 
   pub group_long : length (taken_of w size g (n - g) xs rs) ≡ length (taken w (drop (g * size) xs) rs) + length (taken_of w size (g + 1) (n - (g + 1)) xs rs)

@@ -5,14 +5,14 @@ use Rattle.std.proofs.Math.Seq.{take-add}
 use Rattle.std.proofs.lemmas.List.{get_or-take, get_or-drop, length-drop, length-take-le, same_lists, drop-drop, drop-take, take-take, drop_more, take_more, drop_all, take_all, take-append-drop}
 use Rattle.std.proofs.lemmas.List.Sums.{sum_by-cons, sum_by_push, sum_by-take-le, sum_by-take-drop}
 use Rattle.moves.specs.Slides.{Copied}
-use Rattle.moves.proofs.Places.{columns_le, columns_split}
+use Rattle.moves.proofs.Places.{columns_le, columns_split, columns_wider, column_after}
 use Rattle.journal.specs.declared.parts.Run.{Run}
 use Rattle.journal.specs.View.{run_of}
 use Rattle.listed.specs.declared.cutting.Lines.{Lines}
 use Rattle.listed.specs.Runs.{Rising}
-use Rattle.listed.specs.Cuts.{between, taken, taken_of, gone, Opened}
+use Rattle.listed.specs.Cuts.{between, taken, taken_of, gone, Opened, Reopened}
 use Rattle.listed.proofs.Walks.{rising_from, rising_ends}
-use Rattle.listed.proofs.Blocks.{nought, run_at, ahead, drop_on, block_long, copied_rest}
+use Rattle.listed.proofs.Blocks.{nought, run_at, ahead, drop_on, block_long, copied_rest, group_more}
 
 -- runs that rise, from the last one
 
@@ -294,3 +294,116 @@ module _ {A : Type 0} (was lost : List A) (first top w e : ℕ) (rs : List Run) 
         let below : take top ys ≡ take top was = copied_below is is ys first top (at * w) top (omega arith) s ∙ take_on was is to top (omega arith) c.below in
         let above : drop (top + e * w) ys ≡ drop (top + e * w) was = copied_above is is ys first top (at * w) (top + e * w) (omega arith) s ∙ c.above in
         (l1 ∙ c.long, put, kept, below, above)
+
+-- group by group
+
+pub taken_of_same : {A : Type 0} (w size n g : ℕ) (xs ys : List A) (rs : List (ℕ × ℕ)) → drop (g * size) xs ≡ drop (g * size) ys → taken_of w size g n xs rs ≡ taken_of w size g n ys rs
+taken_of_same w size zero g xs ys rs h = refl
+taken_of_same w size (suc n) g xs ys rs h =
+    ap₂ ◌++◌ (ap (λ z. taken w z rs) h)
+    (taken_of_same w size n (g + 1) xs ys rs (drop_on xs ys (g * size) ((g + 1) * size) (columns_le g (g + 1) size (omega arith)) h))
+
+-- the groups from g on stand; what is below them has not altered
+pub record Regrouped {A : Type 0} (was lost : List A) (lines : Lines) (rs : List Run) (one left : ℕ) (is : List A) (g : ℕ) : Type 0 where
+  pub long : length is ≡ length was
+  pub below : take (g * (lines.count * lines.width)) is ≡ take (g * (lines.count * lines.width)) was
+  pub put : taken_of lines.width (lines.count * lines.width) g (lines.groups - g) is (map run_of rs) ≡ drop (g * one) lost
+  pub kept : taken_of lines.width (lines.count * lines.width) g (lines.groups - g) is (between 0 (map run_of rs) lines.count)
+      ≡ take ((lines.groups - g) * left) (drop (g * left) was)
+
+module _ {A : Type 0} (was lost : List A) (lines : Lines) (rs : List Run) (one left : ℕ) where
+  abbrev size : ℕ
+  size = lines.count * lines.width
+
+  pub groups_first : length lost ≡ lines.groups * one → Regrouped was lost lines rs one left was lines.groups
+  groups_first all =
+      let n = lines.groups in
+      let z : n - n ≡ 0 = omega arith in
+      let z0 : 0 * left ≡ 0 = omega arith in
+      record {
+        long = refl;
+        below = refl;
+        put = ap (λ k. taken_of lines.width size n k was (map run_of rs)) z ∙ sym (drop_all (n * one) lost (omega arith));
+        kept = ap (λ k. taken_of lines.width size n k was (between 0 (map run_of rs) lines.count)) z
+            ∙ sym (ap (λ k. take (k * left) (drop (n * left) was)) z ∙ ap (λ k. take k (drop (n * left) was)) z0);
+      }
+
+  module _ (is : List A) (i j : ℕ) (ij : i ≡ j + 1) (h : i ≤ lines.groups) where
+    -- where a group stands
+    pub group_room : lines.groups * size ≤ length was → length lost ≡ lines.groups * one → one + left ≡ size → length is ≡ length was
+        → (j * size + size ≤ length is) × (j * left ≤ j * size) × (j * one + one ≤ length lost) × (j * left + left ≤ i * size)
+    group_room fits all sum long =
+        let k1 = column_after j i size ij in
+        let k2 = columns_le i lines.groups size h in
+        let k3 = column_after j i one ij in
+        let k4 = columns_le i lines.groups one h in
+        let k5 = columns_wider j left size (omega arith) in
+        let k6 = columns_wider i left size (omega arith) in
+        let k7 = column_after j i left ij in
+        (omega arith, omega arith, omega arith, omega arith)
+
+    pub groups_next : (ys own : List A) → own ≡ take one (drop (j * one) lost) → length own ≡ one → one + left ≡ size
+        → lines.groups * size ≤ length was → length lost ≡ lines.groups * one
+        → Regrouped was lost lines rs one left is i → Opened is ys (j * left) (j * size) lines rs own → Regrouped was lost lines rs one left ys j
+    groups_next ys own is_own ones sum fits all c o =
+        let n = lines.groups in
+        let w = lines.width in
+        let room = group_room fits all sum c.long in
+        let jn : j < n = omega arith in
+        let k1 = column_after j i size ij in
+        let k3 = column_after j i one ij in
+        let k7 = column_after j i left ij in
+        let k8 = column_after (n - i) (n - j) left (omega arith) in
+        let rest : n - (j + 1) ≡ n - i = omega arith in
+        let past : drop (i * size) ys ≡ drop (i * size) is = ap (λ k. drop k ys) k1 ∙ o.above ∙ sym (ap (λ k. drop k is) k1) in
+        let more : (qs : List (ℕ × ℕ)) → taken_of w size j (n - j) ys qs ≡ taken w (drop (j * size) ys) qs ++ taken_of w size i (n - i) is qs =
+        λ qs. group_more w size j n ys qs jn
+        ∙ ap₂ (λ k m. taken w (drop (j * size) ys) qs ++ taken_of w size k m ys qs) (sym ij) rest
+        ∙ ap (λ z. taken w (drop (j * size) ys) qs ++ z) (taken_of_same w size (n - i) i ys is qs past) in
+        let len : size - length own ≡ left = omega arith in
+        record {
+          long = o.long ∙ c.long;
+          below = o.below ∙ take_on was is (i * size) (j * size) (omega arith) c.below;
+          put = more (map run_of rs) ∙ ap₂ ◌++◌ (o.put ∙ is_own) c.put ∙ block_then lost (j * one) one (i * one) k3;
+          kept = more (between 0 (map run_of rs) lines.count)
+              ∙ ap₂ ◌++◌ (o.kept ∙ ap (λ k. take k (drop (j * left) is)) len ∙ read_same was is (i * size) (j * left) left room.3 c.below) c.kept
+              ∙ blocks_join was (j * left) left ((n - i) * left) (i * left) ((n - j) * left) k7 (omega arith);
+        }
+
+  pub groups_done : (is : List A) (i : ℕ) → i ≡ 0 → one ≡ gone rs * lines.width → left ≡ size - one → gone rs ≤ lines.count
+      → Regrouped was lost lines rs one left is i → Reopened was is lines rs lost
+  groups_done is i i0 ones lefts few c =
+      let n = lines.groups in
+      let w = lines.width in
+      let k = columns_split (gone rs) lines.count w few in
+      let is_left : left ≡ (lines.count - gone rs) * w = omega arith in
+      let z0 : 0 * one ≡ 0 = omega arith in
+      let z1 : 0 * left ≡ 0 = omega arith in
+      let z2 : n - 0 ≡ n = omega arith in
+      let from : (qs : List (ℕ × ℕ)) → taken_of w size 0 n is qs ≡ taken_of w size i (n - i) is qs =
+      λ qs. ap (λ k. taken_of w size 0 k is qs) (sym z2) ∙ sym (ap (λ k. taken_of w size k (n - k) is qs) i0) in
+      record {
+        long = c.long;
+        put = from (map run_of rs) ∙ c.put ∙ ap (λ k. drop (k * one) lost) i0 ∙ ap (λ k. drop k lost) z0;
+        kept = from (between 0 (map run_of rs) lines.count) ∙ c.kept
+            ∙ ap (λ k. take ((n - k) * left) (drop (k * left) was)) i0
+            ∙ ap₂ (λ k m. take (k * left) (drop m was)) z2 z1
+            ∙ ap (λ k. take (n * k) was) is_left;
+      }
+
+-- the runs' lines of one group, and what they leave of it
+pub group_sizes : (lines : Lines) (rs : List Run) (k : ℕ) → Rising 0 (map run_of rs) lines.count → k ≡ gone rs
+    → (gone rs ≤ lines.count) × (k * lines.width ≡ gone rs * lines.width) × (k * lines.width ≤ lines.count * lines.width) × (k * lines.width + (lines.count * lines.width - k * lines.width) ≡ lines.count * lines.width)
+group_sizes lines rs k s e =
+    let h = rising_gone 0 lines.count rs s in
+    let f = ap (λ z. z * lines.width) e in
+    let l = columns_le (gone rs) lines.count lines.width (omega arith) in
+    (omega arith, f, omega arith, omega arith)
+
+pub group_saved_all : (n k w one all : ℕ) → one ≡ k * w → all ≡ n * (k * w) → all ≡ n * one
+group_saved_all n k w one all e f = f ∙ sym (ap (λ z. n * z) e)
+
+pub own_block : {A : Type 0} (lost : List A) (at n m : ℕ) → m ≡ n → at + n ≤ length lost → (take m (drop at lost) ≡ take n (drop at lost)) × (length (take m (drop at lost)) ≡ n)
+own_block lost at n m e h =
+    let f = ap (λ k. take k (drop at lost)) e in
+    (f, ap length f ∙ block_long lost at n h)

@@ -1,0 +1,5 @@
+use Rattle.listed.proofs.Returns.{Regrouped}
+use Rattle.listed.proofs.putting.open_runs.Given as goal
+
+abbrev pub invariant-loop-g : goal.invariant-loop-g
+invariant-loop-g g l = Regrouped l.initial.cells l.saved l.lines l.runs l.lost l.left l.cells l.g
