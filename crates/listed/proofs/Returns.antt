@@ -1,8 +1,8 @@
 -- Runs of lines put back in, from the last line to the first.
-use Rattle.std.proofs.Common.{◌≡◌, ℕ, zero, suc, ◌+◌, ◌-◌, ◌*◌, ◌<◌, ◌≤◌, min, List, [], ◌∷◌, ◌++◌, map, length, get_or, take, drop, sym, refl, ap, ap₂, ◌∙◌, subst, append_assoc, append-nil, add-mul, arith, length-append, length-take}
+use Rattle.std.proofs.Common.{◌≡◌, ℕ, zero, suc, ◌+◌, ◌-◌, ◌*◌, ◌<◌, ◌≤◌, min, List, [], ◌∷◌, ◌++◌, map, length, get_or, take, drop, sym, refl, ap, ap₂, ◌∙◌, subst, append_assoc, add-mul, arith, length-take}
 use mathlib.Core.List.{map-append}
 use Rattle.std.proofs.Math.Seq.{take-add}
-use Rattle.std.proofs.lemmas.List.{get_or-take, get_or-drop, length-drop, length-take-le, same_lists, drop-drop, drop-take, take-take, drop_more, take_more, drop_all, take_all, take-append-drop}
+use Rattle.std.proofs.lemmas.List.{get_or-take, get_or-drop, same_lists, drop-drop, drop-take, take-take, drop_more, take_more, drop_all, take_all, take-append-drop}
 use Rattle.std.proofs.lemmas.List.Sums.{sum_by-cons, sum_by_push, sum_by-take-le, sum_by-take-drop}
 use Rattle.moves.specs.Slides.{Copied}
 use Rattle.moves.proofs.Places.{columns_le, columns_split, columns_wider, column_after}
@@ -124,6 +124,9 @@ module _ {A : Type 0} (w : ℕ) where
 
 -- one group: the lines from `at` on stand, those of the runs from place j on among them; what is below `to` has not altered
 pub record Coming {A : Type 0} (was lost : List A) (first top w e : ℕ) (rs : List Run) (is : List A) (j at from to own : ℕ) : Type 0 where
+  pub on : first ≤ top
+  pub inside : top + e * w ≤ length was
+  pub all : length lost ≡ gone rs * w
   pub early : Rising 0 (map run_of (take j rs)) at
   pub late : Rising at (ahead rs j) e
   pub before : own ≡ gone (take j rs) * w
@@ -150,6 +153,9 @@ module _ {A : Type 0} (was lost : List A) (first top w e : ℕ) (rs : List Run) 
       let z1 : (e - e) * w ≡ 0 = ap (λ k. k * w) (let z : e - e ≡ 0 = omega arith in z) ∙ z0 in
       let z2 : from - from ≡ 0 = omega arith in
       record {
+        on = on;
+        inside = inside;
+        all = all;
         early = subst (λ zs. Rising 0 (map run_of zs) e) (sym t) s;
         late = subst (λ zs. Rising e zs e) (sym d) (let h : e ≤ e = omega arith in h);
         before = all ∙ ap (λ zs. gone zs * w) (sym t);
@@ -164,136 +170,145 @@ module _ {A : Type 0} (was lost : List A) (first top w e : ℕ) (rs : List Run) 
             ∙ sym (ap (λ k. take k (drop from was)) z2);
       }
 
-  module _ (is : List A) (i at from to own : ℕ) (c : Coming was lost first top w e rs is i at from to own) where
-    pub coming_room : (from ≤ to) × (own ≤ length lost) × (to ≡ top + at * w) × (at * w ≤ e * w) × (at ≤ e) × (length is ≡ length was) × (from + own ≡ first + at * w) × (from ≤ first + (e * w - length lost))
-    coming_room =
+module _ {A : Type 0} {was lost : List A} {first top w e : ℕ} {rs : List Run} {is : List A} {i at from to own : ℕ} (c : Coming was lost first top w e rs is i at from to own) where
+  pub coming_room : (from ≤ to) × (own ≤ length lost) × (to ≡ top + at * w) × (at * w ≤ e * w) × (at ≤ e) × (length is ≡ length was) × (from + own ≡ first + at * w) × (from ≤ first + (e * w - length lost))
+  coming_room =
+      let on = c.on in
+      let all = c.all in
+      let h1 = c.source in
+      let h2 = c.target in
+      let h3 = rising_ends at e (ahead rs i) c.late in
+      let h4 = columns_le at e w h3 in
+      let h5 = columns_le (gone (take i rs)) (gone rs) w (sum_by-take-le (λ (r : Run). r.length) rs i) in
+      let h6 = c.before in
+      let h7 = rising_gone at e (drop i rs) c.late in
+      let h8 = columns_le (at + gone (drop i rs)) e w h7 in
+      let h9 = add-mul at (gone (drop i rs)) w in
+      let k1 = ap (λ z. z * w) (sum_by-take-drop (λ (r : Run). r.length) rs i) in
+      let k2 = add-mul (gone (take i rs)) (gone (drop i rs)) w in
+      (omega arith, omega arith, h2, h4, h3, c.long, h1, omega arith)
+
+  module _ (j : ℕ) (ij : i ≡ j + 1) (h : j < length rs) where
+    abbrev r : ℕ × ℕ
+    r = run_at rs j
+
+    abbrev gap : ℕ
+    gap = (at - (r.0 + r.1)) * w
+
+    pub turn_room : (r.0 + r.1 ≤ at) × (first + gap ≤ from) × (gap + r.1 * w + top + r.0 * w ≡ to) × (r.1 * w ≤ own) × (own - r.1 * w ≡ gone (take j rs) * w)
+    turn_room =
+        let s = before_rising rs i j ij h at c.early in
+        let b = s.1 in
+        let k1 = columns_split (r.0 + r.1) at w b in
+        let k2 = add-mul r.0 r.1 w in
+        let k3 = ap (λ z. z * w) (before_gone rs i j ij h) ∙ add-mul (gone (take j rs)) r.1 w in
+        let k4 = columns_le (gone (take j rs)) r.0 w (omega (arith, rising_gone 0 r.0 (take j rs) s.0)) in
         let h1 = c.source in
         let h2 = c.target in
-        let h3 = rising_ends at e (ahead rs i) c.late in
-        let h4 = columns_le at e w h3 in
-        let h5 = columns_le (gone (take i rs)) (gone rs) w (sum_by-take-le (λ (r : Run). r.length) rs i) in
-        let h6 = c.before in
-        let h7 = rising_gone at e (drop i rs) c.late in
-        let h8 = columns_le (at + gone (drop i rs)) e w h7 in
-        let h9 = add-mul at (gone (drop i rs)) w in
-        let k1 = ap (λ z. z * w) (sum_by-take-drop (λ (r : Run). r.length) rs i) in
-        let k2 = add-mul (gone (take i rs)) (gone (drop i rs)) w in
-        (omega arith, omega arith, h2, h4, h3, c.long, h1, omega arith)
+        let h3 = c.before in
+        (b, omega arith, omega arith, omega arith, omega arith)
 
-    module _ (j : ℕ) (ij : i ≡ j + 1) (h : j < length rs) where
-      abbrev r : ℕ × ℕ
-      r = run_at rs j
-
-      abbrev gap : ℕ
-      gap = (at - (r.0 + r.1)) * w
-
-      pub turn_room : (r.0 + r.1 ≤ at) × (first + gap ≤ from) × (gap + r.1 * w + top + r.0 * w ≡ to) × (r.1 * w ≤ own) × (own - r.1 * w ≡ gone (take j rs) * w)
-      turn_room =
-          let s = before_rising rs i j ij h at c.early in
-          let b = s.1 in
-          let k1 = columns_split (r.0 + r.1) at w b in
-          let k2 = add-mul r.0 r.1 w in
-          let k3 = ap (λ z. z * w) (before_gone rs i j ij h) ∙ add-mul (gone (take j rs)) r.1 w in
-          let k4 = columns_le (gone (take j rs)) r.0 w (omega (arith, rising_gone 0 r.0 (take j rs) s.0)) in
-          let h1 = c.source in
-          let h2 = c.target in
-          let h3 = c.before in
-          (b, omega arith, omega arith, omega arith, omega arith)
-
-      pub coming_next : (ys zs : List A) → Copied is is ys (from - gap) (to - gap) gap → Copied lost ys zs (own - r.1 * w) (to - gap - r.1 * w) (r.1 * w)
-          → Coming was lost first top w e rs zs j r.0 (from - gap) (to - gap - r.1 * w) (own - r.1 * w)
-      coming_next ys zs s u =
-          let n = r.1 * w in
-          let b = r.0 + r.1 in
-          let room = coming_room in
-          let turn = turn_room in
-          let rise = before_rising rs i j ij h at c.early in
-          let late = rising_from b at e (ahead rs i) turn.0 c.late in
-          let l0 = c.long in
-          let l1 = s.long in
-          let l2 = u.long in
-          let k2 = add-mul r.0 r.1 w in
-          let k1 = columns_split b at w turn.0 in
-          let end : ℕ = first + (e * w - length lost) in
-          let to1 : ℕ = to - gap in
-          let to2 : ℕ = to - gap - n in
-          let from1 : ℕ = from - gap in
-          let own1 : ℕ = own - n in
-          let e1 : top + at * w ≡ to = omega arith in
-          let e2 : top + b * w ≡ to1 = omega arith in
-          let e3 : top + r.0 * w ≡ to2 = omega arith in
-          let past : drop to ys ≡ drop to is = copied_above is is ys from1 to1 gap to (omega arith) s in
-          let past2 : drop to1 zs ≡ drop to1 ys = copied_above lost ys zs own1 to2 n to1 (omega arith) u in
-          let same_ys : drop (at * w) (drop top ys) ≡ drop (at * w) (drop top is) =
-          drop-drop (at * w) top ys ∙ ap (λ k. drop k ys) e1 ∙ past ∙ sym (ap (λ k. drop k is) e1) ∙ sym (drop-drop (at * w) top is) in
-          let same_zs : drop (b * w) (drop top zs) ≡ drop (b * w) (drop top ys) =
-          drop-drop (b * w) top zs ∙ ap (λ k. drop k zs) e2 ∙ past2 ∙ sym (ap (λ k. drop k ys) e2) ∙ sym (drop-drop (b * w) top ys) in
-          let same_zs2 : drop (at * w) (drop top zs) ≡ drop (at * w) (drop top is) =
-          drop_on (drop top zs) (drop top ys) (b * w) (at * w) (columns_le b at w turn.0) same_zs ∙ same_ys in
-          let moved : take gap (drop (b * w) (drop top zs)) ≡ take gap (drop from1 was) =
-          ap (take gap) (same_zs ∙ drop-drop (b * w) top ys ∙ ap (λ k. drop k ys) e2)
-          ∙ copied_block is is ys from1 to1 gap (omega arith) (omega arith) s
-          ∙ read_same was is to from1 gap (omega arith) c.below in
-          let written : take n (drop (r.0 * w) (drop top zs)) ≡ take n (drop own1 lost) =
-          ap (take n) (drop-drop (r.0 * w) top zs ∙ ap (λ k. drop k zs) e3)
-          ∙ copied_block lost ys zs own1 to2 n (omega arith) (omega arith) u in
-          let z0 : 0 * w ≡ 0 = omega arith in
-          let none : (r.0 - r.0) * w ≡ 0 = ap (λ k. k * w) (let z : r.0 - r.0 ≡ 0 = omega arith in z) ∙ z0 in
-          let more : ahead rs j ≡ r ∷ ahead rs i = behind_more rs i j ij h in
-          let xs = drop top zs in
-          record {
-            early = rise.0;
-            late = subst (λ zs. Rising r.0 zs e) (sym more) (let k : r.0 ≤ r.0 = omega arith in k, late);
-            before = turn.4;
-            source = omega arith;
-            target = omega arith;
-            long = l2 ∙ l1 ∙ l0;
-            below = copied_below lost ys zs own1 to2 n to2 (omega arith) u
-                ∙ copied_below is is ys from1 to1 gap to2 (omega arith) s
-                ∙ take_on was is to to2 (omega arith) c.below;
-            above = copied_above lost ys zs own1 to2 n (top + e * w) (omega arith) u
-                ∙ copied_above is is ys from1 to1 gap (top + e * w) (omega arith) s
-                ∙ c.above;
-            put = ap (taken w xs) more
-                ∙ ap₂ ◌++◌ written (taken_same w xs (drop top is) at e (ahead rs i) c.late same_zs2 ∙ c.put)
-                ∙ block_then lost own1 n own (omega arith);
-            kept = ap (λ zs. taken w xs (between r.0 zs e)) more
-                ∙ ap (λ k. take k (drop (r.0 * w) xs) ++ taken w xs (between b (ahead rs i) e)) none
-                ∙ between_from w xs b at e (ahead rs i) turn.0 c.late
-                ∙ ap₂ ◌++◌ moved (taken_same w xs (drop top is) at e (between at (ahead rs i) e) (between_rising at e (ahead rs i) c.late) same_zs2 ∙ c.kept)
-                ∙ blocks_join was from1 gap (end - from) from (end - from1) (omega arith) (omega arith);
-          }
-
-    pub coming_done : i ≡ 0 → (ys : List A) → Copied is is ys first top (at * w)
-        → (length ys ≡ length was) × (taken w (drop top ys) (map run_of rs) ≡ lost) × (taken w (drop top ys) (between 0 (map run_of rs) e) ≡ take (e * w - length lost) (drop first was))
-        × (take top ys ≡ take top was) × (drop (top + e * w) ys ≡ drop (top + e * w) was)
-    coming_done i0 ys s =
+    pub coming_next : (ys zs : List A) → Copied is is ys (from - gap) (to - gap) gap → Copied lost ys zs (own - r.1 * w) (to - gap - r.1 * w) (r.1 * w)
+        → Coming was lost first top w e rs zs j r.0 (from - gap) (to - gap - r.1 * w) (own - r.1 * w)
+    coming_next ys zs s u =
+        let n = r.1 * w in
+        let b = r.0 + r.1 in
+        let on = c.on in
+        let inside = c.inside in
         let room = coming_room in
-        let z : 0 * w ≡ 0 = omega arith in
-        let own0 : own ≡ 0 = c.before ∙ ap (λ k. gone (take k rs) * w) i0 ∙ z in
+        let turn = turn_room in
+        let rise = before_rising rs i j ij h at c.early in
+        let late = rising_from b at e (ahead rs i) turn.0 c.late in
+        let l0 = c.long in
         let l1 = s.long in
-        let from1 : from ≡ first + at * w = omega arith in
-        let to1 = c.target in
-        let xs = drop top ys in
-        let runs0 : map run_of rs ≡ ahead rs i = sym (ap (ahead rs) i0) in
-        let past : drop to ys ≡ drop to is = copied_above is is ys first top (at * w) to (omega arith) s in
-        let same : drop (at * w) xs ≡ drop (at * w) (drop top is) =
-        drop-drop (at * w) top ys ∙ ap (λ k. drop k ys) (sym to1) ∙ past ∙ ap (λ k. drop k is) to1 ∙ sym (drop-drop (at * w) top is) in
-        let moved : take (at * w) xs ≡ take (at * w) (drop first was) =
-        copied_block is is ys first top (at * w) (omega arith) (omega arith) s
-        ∙ read_same was is to first (at * w) (omega arith) c.below in
-        let z1 : at - 0 ≡ at = omega arith in
-        let put : taken w xs (map run_of rs) ≡ lost =
-        ap (taken w xs) runs0 ∙ taken_same w xs (drop top is) at e (ahead rs i) c.late same ∙ c.put ∙ ap (λ k. drop k lost) own0 in
-        let kept : taken w xs (between 0 (map run_of rs) e) ≡ take (e * w - length lost) (drop first was) =
-        ap (λ zs. taken w xs (between 0 zs e)) runs0
-        ∙ between_from w xs 0 at e (ahead rs i) (omega arith) c.late
-        ∙ ap₂ (λ k m. take (k * w) (drop m xs) ++ taken w xs (between at (ahead rs i) e)) z1 z
-        ∙ ap₂ ◌++◌ moved (taken_same w xs (drop top is) at e (between at (ahead rs i) e) (between_rising at e (ahead rs i) c.late) same ∙ c.kept)
-        ∙ blocks_join was first (at * w) (first + (e * w - length lost) - from) from (e * w - length lost) from1 (omega arith) in
-        let below : take top ys ≡ take top was = copied_below is is ys first top (at * w) top (omega arith) s ∙ take_on was is to top (omega arith) c.below in
-        let above : drop (top + e * w) ys ≡ drop (top + e * w) was = copied_above is is ys first top (at * w) (top + e * w) (omega arith) s ∙ c.above in
-        (l1 ∙ c.long, put, kept, below, above)
+        let l2 = u.long in
+        let k2 = add-mul r.0 r.1 w in
+        let k1 = columns_split b at w turn.0 in
+        let end : ℕ = first + (e * w - length lost) in
+        let to1 : ℕ = to - gap in
+        let to2 : ℕ = to - gap - n in
+        let from1 : ℕ = from - gap in
+        let own1 : ℕ = own - n in
+        let e1 : top + at * w ≡ to = omega arith in
+        let e2 : top + b * w ≡ to1 = omega arith in
+        let e3 : top + r.0 * w ≡ to2 = omega arith in
+        let past : drop to ys ≡ drop to is = copied_above is is ys from1 to1 gap to (omega arith) s in
+        let past2 : drop to1 zs ≡ drop to1 ys = copied_above lost ys zs own1 to2 n to1 (omega arith) u in
+        let same_ys : drop (at * w) (drop top ys) ≡ drop (at * w) (drop top is) =
+        drop-drop (at * w) top ys ∙ ap (λ k. drop k ys) e1 ∙ past ∙ sym (ap (λ k. drop k is) e1) ∙ sym (drop-drop (at * w) top is) in
+        let same_zs : drop (b * w) (drop top zs) ≡ drop (b * w) (drop top ys) =
+        drop-drop (b * w) top zs ∙ ap (λ k. drop k zs) e2 ∙ past2 ∙ sym (ap (λ k. drop k ys) e2) ∙ sym (drop-drop (b * w) top ys) in
+        let same_zs2 : drop (at * w) (drop top zs) ≡ drop (at * w) (drop top is) =
+        drop_on (drop top zs) (drop top ys) (b * w) (at * w) (columns_le b at w turn.0) same_zs ∙ same_ys in
+        let moved : take gap (drop (b * w) (drop top zs)) ≡ take gap (drop from1 was) =
+        ap (take gap) (same_zs ∙ drop-drop (b * w) top ys ∙ ap (λ k. drop k ys) e2)
+        ∙ copied_block is is ys from1 to1 gap (omega arith) (omega arith) s
+        ∙ read_same was is to from1 gap (omega arith) c.below in
+        let written : take n (drop (r.0 * w) (drop top zs)) ≡ take n (drop own1 lost) =
+        ap (take n) (drop-drop (r.0 * w) top zs ∙ ap (λ k. drop k zs) e3)
+        ∙ copied_block lost ys zs own1 to2 n (omega arith) (omega arith) u in
+        let z0 : 0 * w ≡ 0 = omega arith in
+        let none : (r.0 - r.0) * w ≡ 0 = ap (λ k. k * w) (let z : r.0 - r.0 ≡ 0 = omega arith in z) ∙ z0 in
+        let more : ahead rs j ≡ r ∷ ahead rs i = behind_more rs i j ij h in
+        let xs = drop top zs in
+        record {
+          on = on;
+          inside = inside;
+          all = c.all;
+          early = rise.0;
+          late = subst (λ zs. Rising r.0 zs e) (sym more) (let k : r.0 ≤ r.0 = omega arith in k, late);
+          before = turn.4;
+          source = omega arith;
+          target = omega arith;
+          long = l2 ∙ l1 ∙ l0;
+          below = copied_below lost ys zs own1 to2 n to2 (omega arith) u
+              ∙ copied_below is is ys from1 to1 gap to2 (omega arith) s
+              ∙ take_on was is to to2 (omega arith) c.below;
+          above = copied_above lost ys zs own1 to2 n (top + e * w) (omega arith) u
+              ∙ copied_above is is ys from1 to1 gap (top + e * w) (omega arith) s
+              ∙ c.above;
+          put = ap (taken w xs) more
+              ∙ ap₂ ◌++◌ written (taken_same w xs (drop top is) at e (ahead rs i) c.late same_zs2 ∙ c.put)
+              ∙ block_then lost own1 n own (omega arith);
+          kept = ap (λ zs. taken w xs (between r.0 zs e)) more
+              ∙ ap (λ k. take k (drop (r.0 * w) xs) ++ taken w xs (between b (ahead rs i) e)) none
+              ∙ between_from w xs b at e (ahead rs i) turn.0 c.late
+              ∙ ap₂ ◌++◌ moved (taken_same w xs (drop top is) at e (between at (ahead rs i) e) (between_rising at e (ahead rs i) c.late) same_zs2 ∙ c.kept)
+              ∙ blocks_join was from1 gap (end - from) from (end - from1) (omega arith) (omega arith);
+        }
+
+  pub coming_done : i ≡ 0 → (ys : List A) → Copied is is ys first top (at * w)
+      → (length ys ≡ length was) × (taken w (drop top ys) (map run_of rs) ≡ lost) × (taken w (drop top ys) (between 0 (map run_of rs) e) ≡ take (e * w - length lost) (drop first was))
+      × (take top ys ≡ take top was) × (drop (top + e * w) ys ≡ drop (top + e * w) was)
+  coming_done i0 ys s =
+      let room = coming_room in
+      let on = c.on in
+      let inside = c.inside in
+      let z : 0 * w ≡ 0 = omega arith in
+      let own0 : own ≡ 0 = c.before ∙ ap (λ k. gone (take k rs) * w) i0 ∙ z in
+      let l1 = s.long in
+      let from1 : from ≡ first + at * w = omega arith in
+      let to1 = c.target in
+      let xs = drop top ys in
+      let runs0 : map run_of rs ≡ ahead rs i = sym (ap (ahead rs) i0) in
+      let past : drop to ys ≡ drop to is = copied_above is is ys first top (at * w) to (omega arith) s in
+      let same : drop (at * w) xs ≡ drop (at * w) (drop top is) =
+      drop-drop (at * w) top ys ∙ ap (λ k. drop k ys) (sym to1) ∙ past ∙ ap (λ k. drop k is) to1 ∙ sym (drop-drop (at * w) top is) in
+      let moved : take (at * w) xs ≡ take (at * w) (drop first was) =
+      copied_block is is ys first top (at * w) (omega arith) (omega arith) s
+      ∙ read_same was is to first (at * w) (omega arith) c.below in
+      let z1 : at - 0 ≡ at = omega arith in
+      let put : taken w xs (map run_of rs) ≡ lost =
+      ap (taken w xs) runs0 ∙ taken_same w xs (drop top is) at e (ahead rs i) c.late same ∙ c.put ∙ ap (λ k. drop k lost) own0 in
+      let kept : taken w xs (between 0 (map run_of rs) e) ≡ take (e * w - length lost) (drop first was) =
+      ap (λ zs. taken w xs (between 0 zs e)) runs0
+      ∙ between_from w xs 0 at e (ahead rs i) (omega arith) c.late
+      ∙ ap₂ (λ k m. take (k * w) (drop m xs) ++ taken w xs (between at (ahead rs i) e)) z1 z
+      ∙ ap₂ ◌++◌ moved (taken_same w xs (drop top is) at e (between at (ahead rs i) e) (between_rising at e (ahead rs i) c.late) same ∙ c.kept)
+      ∙ blocks_join was first (at * w) (first + (e * w - length lost) - from) from (e * w - length lost) from1 (omega arith) in
+      let below : take top ys ≡ take top was = copied_below is is ys first top (at * w) top (omega arith) s ∙ take_on was is to top (omega arith) c.below in
+      let above : drop (top + e * w) ys ≡ drop (top + e * w) was = copied_above is is ys first top (at * w) (top + e * w) (omega arith) s ∙ c.above in
+      (l1 ∙ c.long, put, kept, below, above)
 
 -- group by group
 
@@ -305,6 +320,9 @@ taken_of_same w size (suc n) g xs ys rs h =
 
 -- the groups from g on stand; what is below them has not altered
 pub record Regrouped {A : Type 0} (was lost : List A) (lines : Lines) (rs : List Run) (one left : ℕ) (is : List A) (g : ℕ) : Type 0 where
+  pub sum : one + left ≡ lines.count * lines.width
+  pub all : length lost ≡ lines.groups * one
+  pub fits : lines.groups * (lines.count * lines.width) ≤ length was
   pub long : length is ≡ length was
   pub below : take (g * (lines.count * lines.width)) is ≡ take (g * (lines.count * lines.width)) was
   pub put : taken_of lines.width (lines.count * lines.width) g (lines.groups - g) is (map run_of rs) ≡ drop (g * one) lost
@@ -312,15 +330,16 @@ pub record Regrouped {A : Type 0} (was lost : List A) (lines : Lines) (rs : List
       ≡ take ((lines.groups - g) * left) (drop (g * left) was)
 
 module _ {A : Type 0} (was lost : List A) (lines : Lines) (rs : List Run) (one left : ℕ) where
-  abbrev size : ℕ
-  size = lines.count * lines.width
-
-  pub groups_first : length lost ≡ lines.groups * one → Regrouped was lost lines rs one left was lines.groups
-  groups_first all =
+  pub groups_first : one + left ≡ lines.count * lines.width → length lost ≡ lines.groups * one → lines.groups * (lines.count * lines.width) ≤ length was → Regrouped was lost lines rs one left was lines.groups
+  groups_first sum all fits =
       let n = lines.groups in
+      let size = lines.count * lines.width in
       let z : n - n ≡ 0 = omega arith in
       let z0 : 0 * left ≡ 0 = omega arith in
       record {
+        sum = sum;
+        all = all;
+        fits = fits;
         long = refl;
         below = refl;
         put = ap (λ k. taken_of lines.width size n k was (map run_of rs)) z ∙ sym (drop_all (n * one) lost (omega arith));
@@ -328,11 +347,18 @@ module _ {A : Type 0} (was lost : List A) (lines : Lines) (rs : List Run) (one l
             ∙ sym (ap (λ k. take (k * left) (drop (n * left) was)) z ∙ ap (λ k. take k (drop (n * left) was)) z0);
       }
 
-  module _ (is : List A) (i j : ℕ) (ij : i ≡ j + 1) (h : i ≤ lines.groups) where
+module _ {A : Type 0} {was lost : List A} {lines : Lines} {rs : List Run} {one left : ℕ} {is : List A} {i : ℕ} (c : Regrouped was lost lines rs one left is i) where
+  abbrev size : ℕ
+  size = lines.count * lines.width
+
+  module _ (j : ℕ) (ij : i ≡ j + 1) (h : i ≤ lines.groups) where
     -- where a group stands
-    pub group_room : lines.groups * size ≤ length was → length lost ≡ lines.groups * one → one + left ≡ size → length is ≡ length was
-        → (j * size + size ≤ length is) × (j * left ≤ j * size) × (j * one + one ≤ length lost) × (j * left + left ≤ i * size)
-    group_room fits all sum long =
+    pub group_room : (j * size + size ≤ length is) × (j * left ≤ j * size) × (j * one + one ≤ length lost) × (j * left + left ≤ i * size)
+    group_room =
+        let sum = c.sum in
+        let all = c.all in
+        let fits = c.fits in
+        let long = c.long in
         let k1 = column_after j i size ij in
         let k2 = columns_le i lines.groups size h in
         let k3 = column_after j i one ij in
@@ -342,13 +368,13 @@ module _ {A : Type 0} (was lost : List A) (lines : Lines) (rs : List Run) (one l
         let k7 = column_after j i left ij in
         (omega arith, omega arith, omega arith, omega arith)
 
-    pub groups_next : (ys own : List A) → own ≡ take one (drop (j * one) lost) → length own ≡ one → one + left ≡ size
-        → lines.groups * size ≤ length was → length lost ≡ lines.groups * one
-        → Regrouped was lost lines rs one left is i → Opened is ys (j * left) (j * size) lines rs own → Regrouped was lost lines rs one left ys j
-    groups_next ys own is_own ones sum fits all c o =
+    pub groups_next : (ys own : List A) → own ≡ take one (drop (j * one) lost) → length own ≡ one
+        → Opened is ys (j * left) (j * size) lines rs own → Regrouped was lost lines rs one left ys j
+    groups_next ys own is_own ones o =
         let n = lines.groups in
         let w = lines.width in
-        let room = group_room fits all sum c.long in
+        let room = group_room in
+        let sum = c.sum in
         let jn : j < n = omega arith in
         let k1 = column_after j i size ij in
         let k3 = column_after j i one ij in
@@ -362,6 +388,9 @@ module _ {A : Type 0} (was lost : List A) (lines : Lines) (rs : List Run) (one l
         ∙ ap (λ z. taken w (drop (j * size) ys) qs ++ z) (taken_of_same w size (n - i) i ys is qs past) in
         let len : size - length own ≡ left = omega arith in
         record {
+          sum = sum;
+          all = c.all;
+          fits = c.fits;
           long = o.long ∙ c.long;
           below = o.below ∙ take_on was is (i * size) (j * size) (omega arith) c.below;
           put = more (map run_of rs) ∙ ap₂ ◌++◌ (o.put ∙ is_own) c.put ∙ block_then lost (j * one) one (i * one) k3;
@@ -370,9 +399,9 @@ module _ {A : Type 0} (was lost : List A) (lines : Lines) (rs : List Run) (one l
               ∙ blocks_join was (j * left) left ((n - i) * left) (i * left) ((n - j) * left) k7 (omega arith);
         }
 
-  pub groups_done : (is : List A) (i : ℕ) → i ≡ 0 → one ≡ gone rs * lines.width → left ≡ size - one → gone rs ≤ lines.count
-      → Regrouped was lost lines rs one left is i → Reopened was is lines rs lost
-  groups_done is i i0 ones lefts few c =
+  pub groups_done : i ≡ 0 → one ≡ gone rs * lines.width → left ≡ size - one → gone rs ≤ lines.count
+      → Reopened was is lines rs lost
+  groups_done i0 ones lefts few =
       let n = lines.groups in
       let w = lines.width in
       let k = columns_split (gone rs) lines.count w few in
