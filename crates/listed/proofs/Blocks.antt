@@ -15,7 +15,7 @@ pub open_end : {A : Type 0} (xs : List A) (n : ℕ) → take (length xs - n) (dr
 open_end xs n = take_all (length xs - n) (drop n xs) (omega (arith, length-drop n xs))
 
 module _ {A : Type 0} where
-  block_long : (xs : List A) (from len : ℕ) → from + len ≤ length xs → length (take len (drop from xs)) ≡ len
+  pub block_long : (xs : List A) (from len : ℕ) → from + len ≤ length xs → length (take len (drop from xs)) ≡ len
   block_long xs from len h = length-take-le len (drop from xs) (omega (arith, length-drop from xs))
 
   pub copied_behind : (src xs ys : List A) (from to len : ℕ) → from + len ≤ length src → to + len ≤ length xs → Copied src xs ys from to len
@@ -30,7 +30,7 @@ module _ {A : Type 0} where
       ∙ sym (get_or-drop from src k d) ∙ sym (get_or-take len (drop from src) k d (omega arith))))
 
   -- behind what was copied all stands
-  copied_rest : (src xs ys : List A) (from to len : ℕ) → Copied src xs ys from to len → drop (to + len) ys ≡ drop (to + len) xs
+  pub copied_rest : (src xs ys : List A) (from to len : ℕ) → Copied src xs ys from to len → drop (to + len) ys ≡ drop (to + len) xs
   copied_rest src xs ys from to len s =
       let n = to + len in
       same_lists (drop n ys) (drop n xs) (length-drop n ys ∙ ap (λ z. z - n) s.long ∙ sym (length-drop n xs)) (λ k d b.
@@ -157,7 +157,7 @@ closed w xs from e inside rs j at to top h ae back tl ys zs more long long2 same
 -- one group more
 
 module _ {A : Type 0} (w size g n : ℕ) (xs : List A) (rs : List (ℕ × ℕ)) (h : g < n) where
-  group_more : taken_of w size g (n - g) xs rs ≡ taken w (drop (g * size) xs) rs ++ taken_of w size (g + 1) (n - (g + 1)) xs rs
+  pub group_more : taken_of w size g (n - g) xs rs ≡ taken w (drop (g * size) xs) rs ++ taken_of w size (g + 1) (n - (g + 1)) xs rs
   group_more = ap (λ k. taken_of w size g k xs rs) (let e : n - g ≡ suc (n - (g + 1)) = omega arith in e)
 
   pub group_long : length (taken_of w size g (n - g) xs rs) ≡ length (taken w (drop (g * size) xs) rs) + length (taken_of w size (g + 1) (n - (g + 1)) xs rs)

@@ -1,3 +1,4 @@
 pub mod Marks
 pub mod Walks
 pub mod Blocks
+pub mod Returns

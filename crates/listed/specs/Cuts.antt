@@ -1,7 +1,7 @@
 -- The cells of runs of lines, and what saving them and closing up behind them leaves. A line has `width` cells side by
 -- side; the lines lie one behind the other, in one group or in several of `size` cells each.
 use Rattle.std.specs.Prelude.{◌≡◌, ℕ, ◌+◌, ◌-◌, ◌*◌, ◌≤◌, List, [], ◌∷◌, ◌++◌, map, length, take, drop}
-use Rattle.std.specs.List.{range_with_len, flat_map}
+use Rattle.std.specs.List.{range_with_len, flat_map, sum_by}
 use Rattle.layout.specs.declared.side.Side.{Side}
 use Rattle.layout.specs.declared.side.Side.TheVariants.{Rows, Columns}
 use Rattle.moves.specs.declared.vec_storage.Table.{Table}
@@ -47,3 +47,22 @@ pub record Behind {A : Type 0} (was is : List A) (top : ℕ) (more : List A) : T
   pub long : length is ≡ length was
   pub put : take (top + length more) is ≡ take top was ++ more
   pub rest : drop (top + length more) is ≡ drop (top + length more) was
+
+-- how many lines the runs have
+abbrev pub gone : List Run → ℕ
+gone rs = sum_by (λ (r : Run). r.length) rs
+
+-- one group of lines is put together again: what was spared of it stood from `first` on, what was cut out of it is lost,
+-- and it stands from `top` on
+pub record Opened {A : Type 0} (was is : List A) (first top : ℕ) (lines : Lines) (rs : List Run) (lost : List A) : Type 0 where
+  pub long : length is ≡ length was
+  pub put : taken lines.width (drop top is) (map run_of rs) ≡ lost
+  pub kept : taken lines.width (drop top is) (between 0 (map run_of rs) lines.count) ≡ take (lines.count * lines.width - length lost) (drop first was)
+  pub below : take top is ≡ take top was
+  pub above : drop (top + lines.count * lines.width) is ≡ drop (top + lines.count * lines.width) was
+
+-- the same of all groups, where what was spared stood from the start on
+pub record Reopened {A : Type 0} (was is : List A) (lines : Lines) (rs : List Run) (lost : List A) : Type 0 where
+  pub long : length is ≡ length was
+  pub put : cut lines is rs ≡ lost
+  pub kept : spared lines is rs ≡ take (lines.groups * ((lines.count - gone rs) * lines.width)) was

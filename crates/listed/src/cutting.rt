@@ -4,7 +4,7 @@ ghost use Rattle.moves.specs.Blocks.{SameShape, count_of};
 ghost use Rattle.moves.specs.Stores.{Grown, HasRoom};
 ghost use Rattle.journal.specs.View.{run_of};
 ghost use Rattle.listed.specs.Runs.{Rising};
-ghost use Rattle.listed.specs.Cuts.{Behind, Lying, between, cut, lying, spared, taken};
+ghost use Rattle.listed.specs.Cuts.{Behind, Lying, between, cut, lines_of_side, lying, spared, taken};
 
 use journal::parts::Run;
 use layout::side::Side;
@@ -16,17 +16,17 @@ use moves::vec_storage::Table;
 // `groups` times. A row has one cell in each column; a column is all its cells. No `Block` for each run: the runs of one
 // column are saved before those of the next.
 #[derive(Clone, Copy)]
-struct Lines {
-    width: usize,
-    count: usize,
-    groups: usize,
+pub(crate) struct Lines {
+    pub(crate) width: usize,
+    pub(crate) count: usize,
+    pub(crate) groups: usize,
 }
 
 impl Lines {
-    fn of<T>(table: &Table<'_, T>, side: Side) -> Lines
-        ensures { result ≡ lying side table.now }
+    // The lines of a side of a table of so many rows and columns.
+    pub(crate) fn of_shape(side: Side, rows: usize, columns: usize) -> Lines
+        ensures { result ≡ lines_of_side side rows columns }
     {
-        let (rows, columns) = (table.rows as usize, table.columns as usize);
         match side {
             Side::Rows => Lines {
                 width: 1,
@@ -39,6 +39,12 @@ impl Lines {
                 groups: 1,
             },
         }
+    }
+
+    fn of<T>(table: &Table<'_, T>, side: Side) -> Lines
+        ensures { result ≡ lying side table.now }
+    {
+        Lines::of_shape(side, table.rows as usize, table.columns as usize)
     }
 }
 

@@ -3,3 +3,4 @@
 
 pub mod cutting;
 pub mod finding;
+pub mod putting;
