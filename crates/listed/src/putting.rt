@@ -33,6 +33,7 @@ fn open_group<T: Copy>(
     let mut own = saved.len();
     let mut from = first + (size - own);
     let mut to = top + size;
+    // By place: what is said of a turn names the runs behind this one.
     for j in (0..runs.len()).rev() {
         let run = runs[j];
         let start = run.offset as usize;

@@ -12,7 +12,7 @@ use Rattle.model.specs.Sheet.{listed, Change, insert_lines, remove_lines, remove
 use Rattle.model.specs.Journal as model
 use Rattle.model.specs.Journal.{Sheet, lost_of, runs_from}
 use Rattle.model.specs.Reached.{Newest}
-use Rattle.model.proofs.Listed.{Numbers, goes, goes_few}
+use Rattle.model.proofs.Listed.{Numbers, goes}
 use Rattle.model.proofs.Reaching.{by_newest}
 use Rattle.journal.specs.declared.parts.Note.TheVariants.{ListedRemoval}
 use Rattle.journal.specs.declared.parts.Run.{Run}
