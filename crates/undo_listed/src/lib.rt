@@ -7,7 +7,7 @@ ghost use Rattle.journal.specs.declared.parts.Note.TheVariants.{ListedRemoval};
 ghost use Rattle.journal.specs.Answering.{Answers, Held};
 ghost use Rattle.leaving.specs.Leaving.{Newest};
 
-use journal::parts::{Entry, Note, Parts};
+use journal::parts::{Entry, Parts};
 use layout::side::Side;
 use leaving::leave;
 use listed::putting::put_runs;
