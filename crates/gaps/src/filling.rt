@@ -1,10 +1,16 @@
 ghost use Rattle.std.specs.Prelude.{◌+◌, ◌≤◌, length};
 ghost use Rattle.moves.specs.Blocks.{Shaped, block_in, cells_of, count_of};
+ghost use Rattle.model.specs.Sheet as model;
+ghost use Rattle.model.specs.Journal.{change};
+ghost use Rattle.journal.specs.View.{side_of};
+ghost use Rattle.journal.specs.Answering.{Answers, Held};
 ghost use Rattle.gaps.specs.Taken.{RowsTaken};
 ghost use Rattle.gaps.specs.Gaps.{Filled, Roomy};
 
+use super::opening::open_gap;
 use super::taking::take_rows;
 use journal::parts::{Note, Parts};
+use layout::refusal::Refusal;
 use layout::side::Side;
 use moves::vec_storage::Table;
 
@@ -30,4 +36,21 @@ pub fn fill_gap<T: Copy>(p: &mut Parts<'_, T>, side: Side, i: u32, n: u32, list:
     let entry = p.entry(Note::Gap(side, i, n), 0, 0);
     take_lines(&mut p.table, side, i, n, list, v);
     p.entries.push(entry);
+}
+
+// Opens a gap of n lines before line i and fills it, as one call.
+pub fn fill_lines<T: Copy>(
+    p: &mut Parts<'_, T>,
+    side: Side,
+    i: u32,
+    n: u32,
+    list: &[T],
+    v: T,
+) -> Result<(), Refusal>
+    requires { Held p.old }
+    ensures { Answers p.old p.new (change (model.fill_lines (side_of side) i n list.now v)) result }
+{
+    open_gap(p, side, i, n)?;
+    fill_gap(p, side, i, n, list, v);
+    Ok(())
 }

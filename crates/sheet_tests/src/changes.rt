@@ -1,6 +1,8 @@
 use self::Call::*;
+use calls::call;
 use journal::parts::{Entry, NO_ENTRY, NO_RUN, Run};
 use layout::refusal::Refusal;
+use layout::side::Side;
 use layout::vec_storage::Dense;
 use marked::{Marked, TABLE, note, notes, same_marks};
 use sheet::sheet::Sheet;
@@ -336,4 +338,49 @@ fn settled(rt: HostRuntime) {
     assert_eq!(rt; sheet.cells(), &[4, 5, 6][..]);
     sheet.settle();
     assert_eq!(rt; sheet.entries().len(), 0);
+}
+
+// Calls in one list: a refused one alters nothing, each has its answer, and an answer too many stays as it was.
+#[test]
+fn performed_one_after_another(rt: HostRuntime) {
+    let mut cells = [0; 10];
+    let mut entries = [NO_ENTRY; 3];
+    let mut runs = [NO_RUN; 1];
+    let mut saved = [0; 4];
+    let mut sheet = Sheet::open(
+        &Dense::make(3, 2),
+        &TABLE,
+        &mut cells,
+        &mut entries,
+        &mut runs,
+        &mut saved,
+    );
+    let calls = [
+        call::Call::InsertLines(Side::Rows, 1, 1, 8),
+        call::Call::RemoveLines(Side::Columns, 0, 1),
+        call::Call::Undo,
+        call::Call::SwapLines(Side::Rows, 0, 2),
+        call::Call::RemoveLines(Side::Rows, 4, 1),
+        call::Call::FillLines(Side::Rows, 4, 1, &[7], 9),
+        call::Call::Settle,
+        call::Call::Undo,
+    ];
+    let mut answers = [Err(Refusal::NoSheet); 9];
+    assert_eq!(rt; sheet.perform_all(&calls, &mut answers), 8);
+    assert_eq!(rt;
+        answers,
+        [
+            Ok(()),
+            Ok(()),
+            Ok(()),
+            Ok(()),
+            Err(Refusal::NoSuchLine),
+            Ok(()),
+            Ok(()),
+            Err(Refusal::NothingToUndo),
+            Err(Refusal::NoSheet),
+        ]
+    );
+    assert_eq!(rt; sheet.shape(), (5, 2));
+    assert_eq!(rt; sheet.cells(), &[2, 8, 1, 3, 7, 5, 8, 4, 6, 9][..]);
 }

@@ -1,14 +1,17 @@
-ghost use Rattle.std.specs.Prelude.{◌≡◌, map, reverse, length, IfOk, MatchResult, Ok};
+ghost use Rattle.std.specs.Prelude.{◌≡◌, map, reverse, length, min, take, drop, IfOk, MatchResult, Ok};
 ghost use Rattle.layout.specs.Checks.{Checked, Passes};
 ghost use Rattle.model.specs.Sheet.{row, column, insert_lines, remove_lines, remove_listed, resize_to, swap_lines};
 ghost use Rattle.model.specs.Journal.{change, opened, settle, undo};
 ghost use Rattle.journal.specs.View.{entry_of, room_of, run_of, side_of, view};
 ghost use Rattle.journal.specs.Answering.{Answers};
+ghost use Rattle.calls.specs.Calls.{Ran, call_of};
 ghost use Rattle.sheet.specs.Opening.{Read, no_table, opening_rules, room, room_in, table_in};
 
 use super::super::opening;
 use super::super::opening::Sizes;
 use super::*;
+use calls::call::Call;
+use calls::playing;
 use journal::parts::{Entry, Parts, Run};
 use layout::refusal::Refusal;
 use layout::side::Side;
@@ -138,12 +141,33 @@ impl<'a, T: Copy> Sheet<'a, T> {
         self.parts.saved.as_slice()
     }
 
+    // Carries out a call. Those that follow are this one, with the call's numbers.
+    pub fn perform(&mut self, call: &Call<'_, T>) -> Result<(), Refusal>
+        ensures { Answers self.old.parts self.new.parts (call_of call.now) result }
+    {
+        playing::perform(&mut self.parts, call)
+    }
+
+    // Carries out the calls one after another, each with its answer, as far as there are places for answers; says how
+    // many.
+    pub fn perform_all(
+        &mut self,
+        calls: &[Call<'_, T>],
+        answers: &mut [Result<(), Refusal>],
+    ) -> usize
+        ensures many { result ≡ min (length calls.now) (length answers.old) }
+        ensures ran { Ran (view self.old.parts) (take result calls.now) self.new.parts (take result answers.new) }
+        ensures left { drop result answers.new ≡ drop result answers.old }
+    {
+        playing::perform_all(&mut self.parts, calls, answers)
+    }
+
     // Puts in n lines of v before line i. Beside this call and the next ones, which are over a side, stand those of the
     // Rust's names.
     pub fn insert_lines(&mut self, side: Side, i: u32, n: u32, v: T) -> Result<(), Refusal>
         ensures { Answers self.old.parts self.new.parts (change (insert_lines (side_of side) i n v)) result }
     {
-        lines::insert_lines(&mut self.parts, side, i, n, v)
+        self.perform(&Call::InsertLines(side, i, n, v))
     }
 
     // Puts in n rows of v before row i.
@@ -164,7 +188,7 @@ impl<'a, T: Copy> Sheet<'a, T> {
     pub fn remove_lines(&mut self, side: Side, i: u32, n: u32) -> Result<(), Refusal>
         ensures { Answers self.old.parts self.new.parts (change (remove_lines (side_of side) i n)) result }
     {
-        lines::remove_lines(&mut self.parts, side, i, n)
+        self.perform(&Call::RemoveLines(side, i, n))
     }
 
     // Takes out n rows at i.
@@ -185,7 +209,7 @@ impl<'a, T: Copy> Sheet<'a, T> {
     pub fn remove_lines_at(&mut self, side: Side, list: &[u32]) -> Result<(), Refusal>
         ensures { Answers self.old.parts self.new.parts (change (remove_listed (side_of side) list.now)) result }
     {
-        listings::remove_lines_at(&mut self.parts, side, list)
+        self.perform(&Call::RemoveLinesAt(side, list))
     }
 
     // Takes out each row that the list names, once; an index beyond the rows is passed over.
@@ -206,7 +230,7 @@ impl<'a, T: Copy> Sheet<'a, T> {
     pub fn swap_lines(&mut self, side: Side, i: u32, j: u32) -> Result<(), Refusal>
         ensures { Answers self.old.parts self.new.parts (change (swap_lines (side_of side) i j)) result }
     {
-        swaps::swap(&mut self.parts, side, i, j)
+        self.perform(&Call::SwapLines(side, i, j))
     }
 
     // Rows i and j change places.
@@ -227,7 +251,7 @@ impl<'a, T: Copy> Sheet<'a, T> {
     pub fn resize_mut(&mut self, rows: u32, columns: u32, v: T) -> Result<(), Refusal>
         ensures { Answers self.old.parts self.new.parts (change (resize_to rows columns v)) result }
     {
-        resizing::resize_mut(&mut self.parts, rows, columns, v)
+        self.perform(&Call::ResizeMut(rows, columns, v))
     }
 
     // Brings back shape and cells before the newest entry, and frees the entry, its runs and its saved cells. Puts
@@ -235,7 +259,7 @@ impl<'a, T: Copy> Sheet<'a, T> {
     pub fn undo(&mut self) -> Result<(), Refusal>
         ensures { Answers self.old.parts self.new.parts undo result }
     {
-        undo::undo(&mut self.parts)
+        self.perform(&Call::Undo)
     }
 
     // Frees all entries, runs and saved cells: what was done stays done.
