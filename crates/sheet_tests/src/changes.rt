@@ -8,6 +8,7 @@ use marked::{Marked, TABLE, note, notes, same_marks};
 use sheet::sheet::Sheet;
 use std::process::Abort;
 
+// The calls by the Rust's names, of either kind of cell; the library's `Call` is over the side and of one kind.
 #[derive(Clone, Copy)]
 pub(crate) enum Call<'c> {
     InsertRows(u32, u32, u32),
