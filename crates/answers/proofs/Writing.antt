@@ -1,5 +1,6 @@
 -- What a turn of a loop that writes keeps.
-use Rattle.std.proofs.Common.{◌≡◌, ℕ, zero, suc, ◌+◌, ◌-◌, ◌<◌, ◌≤◌, List, [], ◌∷◌, ◌++◌, map, decimal, refl, sym, ap, ◌∙◌, append_assoc, append-nil, arith}
+use Rattle.std.proofs.Common.{◌≡◌, ℕ, zero, suc, ◌+◌, ◌-◌, ◌/◌, ◌%◌, ◌^◌, ◌<◌, ◌≤◌, List, [], ◌∷◌, ◌++◌, map, decimal, refl, sym, ap, ◌∙◌, append_assoc, append-nil, arith}
+use Rattle.std.proofs.lemmas.Fmt.{decimal_digit, decimal_step}
 use Rattle.std.specs.List.{range_with_len}
 use Rattle.answers.specs.Answers.{field, spaced, row_text}
 
@@ -8,6 +9,14 @@ pub spaced_more : (f : ℕ → ℕ) (c n x : ℕ) (old new all : List ℕ) → c
 spaced_more f c n x old new all h e g k =
     let less : n - c ≡ suc (n - (c + 1)) = omega arith in
     ap (λ l. l ++ spaced (map f (range_with_len (c + 1) (n - (c + 1))))) (g ∙ ap (λ m. old ++ field m) e) ∙ append_assoc old (field (f c)) _ ∙ ap (λ m. old ++ spaced (map f (range_with_len c m))) (sym less) ∙ k
+
+-- a number of one digit, and one of two, written digit by digit
+pub put_one : (o p : List ℕ) (n : ℕ) → n < 10 → p ≡ o ++ (48 + n) ∷ [] → p ≡ o ++ decimal n
+put_one o p n h e = e ∙ ap (λ l. o ++ l) (sym (decimal_digit n h))
+
+pub put_two : (o p q : List ℕ) (n : ℕ) → 10 ≤ n → n < 100 → p ≡ o ++ (48 + n / 10) ∷ [] → q ≡ p ++ (48 + n % 10) ∷ [] → q ≡ o ++ decimal n
+put_two o p q n h k a b =
+    b ∙ ap (λ l. l ++ (48 + n % 10) ∷ []) (put_one o p (n / 10) (omega arith) a) ∙ append_assoc o (decimal (n / 10)) _ ∙ ap (λ l. o ++ l) (sym (decimal_step n h (omega arith)))
 
 -- the first of n numbers that f gives
 abbrev pub first : (ℕ → ℕ) → ℕ → List ℕ

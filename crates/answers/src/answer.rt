@@ -1,12 +1,12 @@
 // Writes answers and rows as bytes.
-ghost use Rattle.std.specs.Prelude.{◌≡◌, ◌+◌, ◌*◌, ◌++◌, Some, OnOk, slice_index};
+ghost use Rattle.std.specs.Prelude.{◌≡◌, ◌+◌, ◌*◌, ◌<◌, [], ◌∷◌, ◌++◌, Some, decimal, OnOk, slice_index};
 ghost use Rattle.layout.specs.Refusals.{number_of};
-ghost use Rattle.answers.specs.Answers.{letter_of, row_cells, row_text, shape_words, no_words, answer_text};
+ghost use Rattle.answers.specs.Answers.{letter_of, field, row_cells, row_text, shape_words, no_words, done_text, refused_text, answer_text};
 
+use itoa::Buffer;
 use layout::refusal::Refusal;
 use std::alloc::AllocError;
-use std::io::Write;
-use std::{fmt, io};
+use std::fmt;
 
 // The sheet's size after a command that was carried out.
 #[derive(Clone, Copy, Debug, PartialEq, Eq)]
@@ -56,16 +56,67 @@ impl fmt::Display for Refused {
     }
 }
 
+fn put_digit(out: &mut Vec<u8>, n: u64) -> Result<(), AllocError>
+    requires { n < 10 }
+    ensures { OnOk result (out.new.items ≡ out.old.items ++ (48 + n) ∷ []) }
+{
+    out.push(b'0' + n as u8)?;
+    Ok(())
+}
+
+// Appends the decimal digits of a number. Not by `write!`, whose way to a `Vec` takes several times as long; and the
+// buffer of the longer ones costs more than one or two digits do.
+fn put_number(out: &mut Vec<u8>, n: u64) -> Result<(), AllocError>
+    ensures { OnOk result (out.new.items ≡ out.old.items ++ decimal n) }
+{
+    match n {
+        0..=9 => put_digit(out, n),
+        10..=99 => {
+            put_digit(out, n / 10)?;
+            put_digit(out, n % 10)
+        }
+        _ => out.extend_from_slice(Buffer::new().format(n).as_bytes()),
+    }
+}
+
+// Appends a blank and a number.
+fn put_field(out: &mut Vec<u8>, n: u64) -> Result<(), AllocError>
+    ensures { OnOk result (out.new.items ≡ out.old.items ++ field n) }
+{
+    out.push(b' ')?;
+    put_number(out, n)
+}
+
+fn put_done(out: &mut Vec<u8>, done: Done) -> Result<(), AllocError>
+    ensures { OnOk result (out.new.items ≡ out.old.items ++ done_text done.rows done.columns) }
+{
+    out.extend_from_slice(b"ok")?;
+    put_field(out, u64::from(done.rows))?;
+    put_field(out, u64::from(done.columns))?;
+    out.push(b'\n')?;
+    Ok(())
+}
+
+fn put_refused(out: &mut Vec<u8>, refused: Refused) -> Result<(), AllocError>
+    ensures { OnOk result (out.new.items ≡ out.old.items ++ refused_text refused.line refused.word refused.refusal) }
+{
+    out.extend_from_slice(b"no")?;
+    put_field(out, refused.line as u64)?;
+    put_field(out, refused.word as u64)?;
+    out.extend_from_slice(&[b' ', letter(refused.refusal)])?;
+    put_field(out, u64::from(refused.refusal.number()))?;
+    out.push(b'\n')?;
+    Ok(())
+}
+
 // Appends `ok ROWS COLUMNS` or `no LINE WORD LETTER NUMBER`, and a line feed.
 pub fn put_answer(out: &mut Vec<u8>, answer: Answer) -> Result<(), AllocError>
     ensures { OnOk result (out.new.items ≡ out.old.items ++ answer_text answer) }
 {
-    let written = match answer {
-        Ok(done) => writeln!(out, "{done}"),
-        Err(refused) => writeln!(out, "{refused}"),
-    };
-    // Writing to a `Vec` fails by memory alone.
-    written.map_err(|_| AllocError)
+    match answer {
+        Ok(done) => put_done(out, done),
+        Err(refused) => put_refused(out, refused),
+    }
 }
 
 // The cell of a table that lies column by column, or 0 beyond the slice.
@@ -75,20 +126,6 @@ fn cell(cells: &[u32], rows: u32, row: u32, column: u32) -> u32
     // The product of two 32-bit numbers and a third fit 64 bits.
     let place = row as usize + column as usize * rows as usize;
     cells.get(place).copied().unwrap_or(0)
-}
-
-// What `put_row` appends, with the error that a writer has: each `?` hands that on.
-fn write_row(out: &mut Vec<u8>, cells: &[u32], rows: u32, columns: u32, row: u32) -> io::Result<()>
-    ensures { OnOk result (out.new.items ≡ out.old.items ++ row_text (row_cells cells.now rows columns row)) }
-{
-    if columns > 0 {
-        write!(out, "{}", cell(cells, rows, row, 0))?;
-    }
-    // With `try_for_each` the goal stayed open: its closure writes to `out`.
-    for column in 1..columns {
-        write!(out, " {}", cell(cells, rows, row, column))?;
-    }
-    writeln!(out)
 }
 
 // Appends a row of a table that lies column by column: its cells, parted by single blanks, and a line feed.
@@ -102,5 +139,12 @@ pub fn put_row(
 ) -> Result<(), AllocError>
     ensures { OnOk result (out.new.items ≡ out.old.items ++ row_text (row_cells cells.now rows columns row)) }
 {
-    write_row(out, cells, rows, columns, row).map_err(|_| AllocError)
+    if columns > 0 {
+        put_number(out, u64::from(cell(cells, rows, row, 0)))?;
+    }
+    for column in 1..columns {
+        put_field(out, u64::from(cell(cells, rows, row, column)))?;
+    }
+    out.push(b'\n')?;
+    Ok(())
 }

@@ -5,10 +5,11 @@ use journal::parts::{NO_ENTRY, NO_RUN};
 use layout::vec_storage::Dense;
 use session::state::{Lines, Session};
 use sheet::sheet::Sheet;
+use std::io;
 use std::io::{Read, Write};
 
 // So much of the input is read, and no more.
-const INPUT: u64 = 65536;
+const INPUT: usize = 65536;
 
 // The stores of the script's sheet.
 const CELLS: usize = 4096;
@@ -33,8 +34,10 @@ fn obey(rt: &HostRuntime, session: &mut Session<'_, '_>, script: &[u8]) -> anyho
 }
 
 fn run(rt: &HostRuntime) -> anyhow::Result<()> {
-    let mut script = Vec::new(rt.alloc());
-    rt.stdin().take(INPUT).read_to_end(&mut script)?;
+    // A page on the stack, as the stores: a script is read without memory of the heap.
+    let mut page = [0; INPUT];
+    let read = io::copy(&mut rt.stdin().take(INPUT as u64), &mut &mut page[..])? as usize;
+    let script = &page[..read.min(INPUT)];
     let mut cells = [0; CELLS];
     let mut entries = [NO_ENTRY; ENTRIES];
     let mut runs = [NO_RUN; RUNS];
@@ -48,7 +51,7 @@ fn run(rt: &HostRuntime) -> anyhow::Result<()> {
         &mut saved,
     );
     let mut session = Session::new(&mut sheet);
-    obey(rt, &mut session, script.as_slice())
+    obey(rt, &mut session, script)
 }
 
 fn main(rt: HostRuntime) -> anyhow::Result<()> {

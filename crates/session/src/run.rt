@@ -1,4 +1,4 @@
-ghost use Rattle.std.specs.Prelude.{◌≡◌, ◌+◌, ◌<◌, ◌≤◌, ◌⊎◌, ◌++◌, length, take, vec_len, OnOk, ◌==◌};
+ghost use Rattle.std.specs.Prelude.{◌≡◌, ◌+◌, ◌<◌, ◌≤◌, ◌⊎◌, ◌++◌, length, take, vec_len, OnErr, OnOk, ◌==◌};
 ghost use Rattle.std.specs.Iterator.{at_most};
 ghost use Rattle.script.specs.Words.{lines_of};
 ghost use Rattle.session.specs.Transcript.{played, transcript};
@@ -55,14 +55,21 @@ impl<'s, 'a> Session<'s, 'a> {
         ensures text { OnOk result (out.new.items ++ transcript (state_of self.new) lines.new.number (lines_of lines.new.rest.now) ≡ out.old.items ++ transcript (state_of self.old) lines.old.number (lines_of lines.old.rest.now)) }
         ensures goes { OnOk result (0 < length lines.old.rest.now → vec_len out.old < 65536 → length lines.new.rest.now < length lines.old.rest.now) }
         ensures ends { OnOk result ((length lines.new.rest.now ≡ 0) ⊎ (65536 ≤ vec_len out.new)) }
+        ensures kept { OnErr result (lines.new ≡ lines.old) }
         ensures full { OnOk result (65536 ≤ vec_len out.old → (lines.new ≡ lines.old) × (state_of self.new ≡ state_of self.old) × (out.new.items ≡ out.old.items)) }
     {
+        // Handed back at the end alone: where memory is wanting, `lines` are those that came.
+        let mut left = Lines {
+            rest: lines.rest,
+            number: lines.number,
+        };
         // It stops for want of room too, so this is no `for`.
         while out.len() < 65536
-            && let Some((number, line)) = lines.next()
+            && let Some((number, line)) = left.next()
         {
             self.obey(number, line, out)?;
         }
+        *lines = left;
         Ok(())
     }
 }

@@ -1,7 +1,7 @@
 use Rattle.std.proofs.Common.{◌≡◌, ◌+◌, ◌-◌, ◌*◌, ◌++◌, map, get_or, vec_items}
 use Rattle.std.specs.List.{range_with_len}
 use Rattle.answers.specs.Answers.{spaced}
-use Rattle.answers.proofs.answer.write_row.Given as goal
+use Rattle.answers.proofs.answer.put_row.Given as goal
 
 abbrev pub invariant-loop-column : goal.invariant-loop-column
 invariant-loop-column l =
