@@ -64,8 +64,15 @@ fn put_digit(out: &mut Vec<u8>, n: u64) -> Result<(), AllocError>
     Ok(())
 }
 
-// Appends the decimal digits of a number. Not by `write!`, whose way to a `Vec` takes several times as long; and the
-// buffer of the longer ones costs more than one or two digits do.
+// A number of three digits and more. Never inlined: else each shorter one pays for the room of its buffer too.
+#[inline(never)]
+fn put_long(out: &mut Vec<u8>, n: u64) -> Result<(), AllocError>
+    ensures { OnOk result (out.new.items ≡ out.old.items ++ decimal n) }
+{
+    out.extend_from_slice(Buffer::new().format(n).as_bytes())
+}
+
+// Appends the decimal digits of a number. Not by `write!`, whose way to a `Vec` takes several times as long.
 fn put_number(out: &mut Vec<u8>, n: u64) -> Result<(), AllocError>
     ensures { OnOk result (out.new.items ≡ out.old.items ++ decimal n) }
 {
@@ -75,7 +82,7 @@ fn put_number(out: &mut Vec<u8>, n: u64) -> Result<(), AllocError>
             put_digit(out, n / 10)?;
             put_digit(out, n % 10)
         }
-        _ => out.extend_from_slice(Buffer::new().format(n).as_bytes()),
+        _ => put_long(out, n),
     }
 }
 
@@ -142,6 +149,7 @@ pub fn put_row(
     if columns > 0 {
         put_number(out, u64::from(cell(cells, rows, row, 0)))?;
     }
+    // With `try_for_each` the goal stayed open: its closure writes to `out`.
     for column in 1..columns {
         put_field(out, u64::from(cell(cells, rows, row, column)))?;
     }

@@ -1,6 +1,8 @@
 // Carries out a script from standard input on a sheet of weights, and prints what is said of each line.
 #![tactic(auto)]
 
+ghost use Rattle.std.specs.Prelude.{◌≤◌, length, IfOk};
+
 use journal::parts::{NO_ENTRY, NO_RUN};
 use layout::vec_storage::Dense;
 use session::state::{Lines, Session};
@@ -20,6 +22,22 @@ const RUNS: usize = 256;
 
 const SAVED: usize = 4096;
 
+// Reads up to the end of the input or of the page, and says how much was read. No `read_to_end` and no `io::copy`: the
+// one takes memory of the heap, the other a buffer of its own for each 8,192 bytes.
+fn fill<R: Read>(input: &mut R, page: &mut [u8]) -> io::Result<usize>
+    ensures { IfOk result (λ n. n ≤ length page.old) }
+{
+    let mut n = 0;
+    while n < page.len() {
+        let got = input.read(&mut page[n..])?;
+        if got == 0 {
+            break;
+        }
+        n += got;
+    }
+    Ok(n)
+}
+
 // Obeys the script, and prints what is said of it whenever enough has come together.
 fn obey(rt: &HostRuntime, session: &mut Session<'_, '_>, script: &[u8]) -> anyhow::Result<()> {
     let mut out = Vec::new(rt.alloc());
@@ -36,8 +54,7 @@ fn obey(rt: &HostRuntime, session: &mut Session<'_, '_>, script: &[u8]) -> anyho
 fn run(rt: &HostRuntime) -> anyhow::Result<()> {
     // A page on the stack, as the stores: a script is read without memory of the heap.
     let mut page = [0; INPUT];
-    let read = io::copy(&mut rt.stdin().take(INPUT as u64), &mut &mut page[..])? as usize;
-    let script = &page[..read.min(INPUT)];
+    let read = fill(&mut rt.stdin(), &mut page)?;
     let mut cells = [0; CELLS];
     let mut entries = [NO_ENTRY; ENTRIES];
     let mut runs = [NO_RUN; RUNS];
@@ -51,7 +68,7 @@ fn run(rt: &HostRuntime) -> anyhow::Result<()> {
         &mut saved,
     );
     let mut session = Session::new(&mut sheet);
-    obey(rt, &mut session, script)
+    obey(rt, &mut session, &page[..read])
 }
 
 fn main(rt: HostRuntime) -> anyhow::Result<()> {

@@ -23,6 +23,9 @@ pub(crate) fn take_rows<T: Copy>(cells: &mut [T], b: Block, list: &[T], v: T)
     requires { Inside b (length cells.old) }
     ensures { RowsTaken cells.old cells.new b list.now v }
 {
+    if b.count == 0 {
+        return;
+    }
     for c in 0..b.columns {
         let used = list.len().min(c * b.count);
         take_block(cells, b.first + c * b.rows, b.count, &list[used..], v);

@@ -107,9 +107,12 @@ impl<'a> Layout for Picked<'a> {
     }
 
     fn place(&self, row: u32, column: u32) -> u32 {
-        match self.list.get(row as usize) {
-            Some(listed) => self.table.place(*listed, column),
-            None => self.span(),
+        // Not by the table's own `place`: a listed row is one of its rows, which that would test again.
+        let (rows, columns) = self.table.shape();
+        if (row as usize) < self.list.len() && column < columns {
+            self.list[row as usize] + column * rows
+        } else {
+            self.span()
         }
     }
 }

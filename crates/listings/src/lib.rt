@@ -46,7 +46,9 @@ fn find_own<T>(table: &Table<'_, T>, side: Side, list: &[u32], found: &mut Store
     count_lines(found.as_slice())
 }
 
-// Takes out each line that the list names, once; an index beyond the lines is passed over.
+// Takes out each line that the list names, once; an index beyond the lines is passed over. Never inlined: else each
+// other call takes the room of its runs and marks on the stack too.
+#[inline(never)]
 pub fn remove_lines_at<T: Copy>(
     p: &mut Parts<'_, T>,
     side: Side,

@@ -1,6 +1,8 @@
 -- One more call, and what every reachable sheet keeps to.
 use Rattle.std.proofs.Common.{◌≡◌, ℕ, ◌+◌, ◌*◌, Bool, true, false, cond, ◌&&◌, ltb, leb, List, [], ◌∷◌, ◌++◌, length, drop, sym, refl, ap, ◌∙◌, subst, arith, length-append}
 use mathlib.Core.Logic.{∥∥₁_elim, ∥∥₁_map}
+use native.Mathlib.Nat.{ℕ_set}
+use native.Mathlib.Bridge.{le_prop}
 use Rattle.std.proofs.lemmas.Bool.{and_parts, leb-true, ltb-true}
 use Rattle.model.specs.Sheet.{Change, Table, rows_of, columns_of}
 use Rattle.model.specs.Journal.{Sheet, Room, Entry, done, Call, change, undo, settle, first_no, tests, verdict, after, before, taken_back, step, opened, runs_of, lost_of, has_column, named_in}
@@ -107,12 +109,31 @@ module _ {A : Type 0} (t : Table A) (room : Room) (h : Within t room) where
   newest_reach (undo ∷ past) ok p ps e = absurd ok.0
   newest_reach (settle ∷ past) ok p ps e = absurd (let z : ◌≡◌ {A = ℕ} 0 1 = cc in omega arith)
 
+pub reached_bounds : {A : Type 0} (s : Sheet A) → Reached s → Bounds s
+reached_bounds s w =
+    let k = all_come w.table w.room w.within.right w.calls in
+    subst Bounds (k.0 ∙ w.is) (bounds_reach w.table w.room w.within (remains w.table w.room w.calls) k.1)
+
 pub reached_newest : {A : Type 0} (s : Sheet A) (p : Entry) (ps : List Entry) → s.entries ≡ p ∷ ps → Reached s → Newest s
 reached_newest {A} s p ps e w =
     let k = all_come w.table w.room w.within.right w.calls in
     let past = remains w.table w.room w.calls in
     let f : reach w.table w.room past ≡ s = k.0 ∙ w.is in
     subst Newest f (newest_reach w.table w.room w.within past k.1 p ps (ap (λ (z : Sheet A). z.entries) f ∙ e))
+
+-- what a sheet keeps to, whichever opening and calls lead to it
+pub bounds : {A : Type 0} (s : Sheet A) → Reachable s → Bounds s
+bounds s h = record {
+  within = record {
+    right = ∥∥₁_elim h (ℕ_set _ _) (λ w. (reached_bounds s w).within.right);
+    rows = ∥∥₁_elim h le_prop (λ w. (reached_bounds s w).within.rows);
+    columns = ∥∥₁_elim h le_prop (λ w. (reached_bounds s w).within.columns);
+    cells = ∥∥₁_elim h le_prop (λ w. (reached_bounds s w).within.cells);
+  };
+  entries = ∥∥₁_elim h le_prop (λ w. (reached_bounds s w).entries);
+  runs = ∥∥₁_elim h le_prop (λ w. (reached_bounds s w).runs);
+  saved = ∥∥₁_elim h le_prop (λ w. (reached_bounds s w).saved);
+}
 
 -- a proposition that holds of whatever change came last
 pub by_newest : {A : Type 0} (s : Sheet A) (p : Entry) (ps : List Entry) → s.entries ≡ p ∷ ps → Reachable s → {Q : Type 0} → IsProp Q → (Newest s → Q) → Q

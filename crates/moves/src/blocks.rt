@@ -31,15 +31,44 @@ fn slide_block<T: Copy>(cells: &mut [T], from: usize, to: usize, len: usize)
     copy_block(held, 0, cells, to, len);
 }
 
+// To the left, cell by cell from the first on: a cell is read before it is written over.
+fn slide_left_cells<T: Copy>(cells: &mut [T], from: usize, to: usize, len: usize)
+    requires { (to ≤ from) × (from + len ≤ length cells.old) }
+    ensures { Copied cells.old cells.old cells.new from to len }
+{
+    for i in 0..len {
+        cells[to + i] = cells[from + i];
+    }
+}
+
+// To the right, cell by cell from the last on.
+fn slide_right_cells<T: Copy>(cells: &mut [T], from: usize, to: usize, len: usize)
+    requires { (from ≤ to) × (to + len ≤ length cells.old) }
+    ensures { Copied cells.old cells.old cells.new from to len }
+{
+    for i in (0..len).rev() {
+        cells[to + i] = cells[from + i];
+    }
+}
+
 // Moves `len` cells either way, part by part. To the left it goes from the first part on, to the right from the last
 // on, so a cell is read before it is written over.
-pub fn slide<T: Copy>(cells: &mut [T], from: usize, to: usize, len: usize)
+fn slide_within<T: Copy>(cells: &mut [T], from: usize, to: usize, len: usize)
     requires { (from + len ≤ length cells.old) × (to + len ≤ length cells.old) }
     ensures { Copied cells.old cells.old cells.new from to len }
 {
-    // So few cells are moved before a call of memmove is under way.
+    // So few cells are moved before a call of memmove is under way, and sooner by these loops than by `copy_within`.
     if len < 8 {
-        cells.copy_within(from..from + len, to);
+        if to < from {
+            slide_left_cells(cells, from, to, len);
+        } else {
+            slide_right_cells(cells, from, to, len);
+        }
+        return;
+    }
+    // Most moves are no longer than this, and then the parts need not be counted.
+    if len <= 4096 {
+        slide_block(cells, from, to, len);
         return;
     }
     let parts = len.div_ceil(4096);
@@ -47,6 +76,18 @@ pub fn slide<T: Copy>(cells: &mut [T], from: usize, to: usize, len: usize)
         let part = if to < from { k } else { parts - 1 - k };
         let at = 4096 * part;
         slide_block(cells, from + at, to + at, (len - at).min(4096));
+    }
+}
+
+// Moves `len` cells either way, unless they lie there already. Apart from `slide_within`, so that the compiler goes over
+// the two copies of `slide_block` once more: it makes one memmove of them for cells of twelve bytes only then.
+#[inline]
+pub fn slide<T: Copy>(cells: &mut [T], from: usize, to: usize, len: usize)
+    requires { (from + len ≤ length cells.old) × (to + len ≤ length cells.old) }
+    ensures { Copied cells.old cells.old cells.new from to len }
+{
+    if from != to {
+        slide_within(cells, from, to, len);
     }
 }
 

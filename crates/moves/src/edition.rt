@@ -73,6 +73,10 @@ pub fn save_rows<T: Copy>(cells: &[T], b: Block, saved: &mut Store<'_, T>)
     ensures saved { Saved cells.now (items saved.old) (items saved.new) b }
     ensures kept { Kept saved.old saved.new }
 {
+    // No row, no turn: there may be 4,096 columns.
+    if b.count == 0 {
+        return;
+    }
     for c in 0..b.columns {
         let from = b.first + c * b.rows;
         saved.extend_from_slice(&cells[from..from + b.count]);
@@ -84,6 +88,9 @@ pub fn put_rows<T: Copy>(saved: &[T], cells: &mut [T], b: Block)
     requires { Inside b (length cells.old) × (b.count * b.columns ≤ length saved.now) }
     ensures { Put saved.now cells.old cells.new b }
 {
+    if b.count == 0 {
+        return;
+    }
     for c in 0..b.columns {
         let from = c * b.count;
         let to = b.first + c * b.rows;
@@ -108,6 +115,9 @@ pub fn fill_rows<T: Copy>(cells: &mut [T], b: Block, v: T)
     requires { Inside b (length cells.old) }
     ensures { RowsFilled cells.old cells.new b v }
 {
+    if b.count == 0 {
+        return;
+    }
     for c in 0..b.columns {
         fill_range(cells, b.first + c * b.rows, b.count, v);
     }

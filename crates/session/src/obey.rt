@@ -46,7 +46,9 @@ impl<'s, 'a> Session<'s, 'a> {
         }
     }
 
-    // Opens a sheet of one value over the buffers; where that is refused the sheet that was there stays.
+    // Opens a sheet of one value over the buffers; where that is refused the sheet that was there stays. Never inlined:
+    // else the program has the room of the table on its stack all the time.
+    #[inline(never)]
     fn open_new(&mut self, rows: u32, columns: u32, value: u32) -> Result<(), Refusal>
         ensures { NewAnswers self.old self.new rows columns value result }
     {

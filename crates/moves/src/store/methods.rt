@@ -67,6 +67,13 @@ impl<'a, X: Copy> Store<'a, X> {
         requires { HasRoom self.old (length list.now) }
         ensures { Grown self.old self.new list.now }
     {
+        // So few items are written before a call of memcpy is under way.
+        if list.len() < 8 {
+            for item in list {
+                self.push(*item);
+            }
+            return;
+        }
         let end = self.used + list.len();
         self.places[self.used..end].copy_from_slice(list);
         self.used = end;

@@ -1,7 +1,7 @@
 use Rattle.std.proofs.Common.{◌-◌, ◌*◌, ◌<◌, ◌≤◌, min}
 use Rattle.moves.specs.Slides.{Copied}
 use Rattle.moves.proofs.Slides.{SlidFrom}
-use Rattle.moves.proofs.blocks.slide.Given as goal
+use Rattle.moves.proofs.blocks.slide_within.Given as goal
 
 -- to the left the first parts are moved, to the right the last ones
 abbrev pub invariant-loop-k : goal.invariant-loop-k
