@@ -23,7 +23,7 @@ const RUNS: usize = 256;
 const SAVED: usize = 4096;
 
 // Reads up to the end of the input or of the page, and says how much was read. No `read_to_end` and no `io::copy`: the
-// one takes memory of the heap, the other a buffer of its own for each 8,192 bytes.
+// one takes memory of the heap, the other 8,192 bytes more on the stack.
 fn fill<R: Read>(input: &mut R, page: &mut [u8]) -> io::Result<usize>
     ensures { IfOk result (λ n. n ≤ length page.old) }
 {
